@@ -1,0 +1,4 @@
+pub mod Bits
+pub mod Expr
+pub mod Netlist
+pub mod Vectors
