@@ -1,0 +1,55 @@
+-- The state of the event queue (IEEE 1364-2005, 11.3): what each signal has, and what is left to do.
+use Rattle.std.specs.Prelude.{◌≡◌, ℕ, ◌==◌, Bool, true, false, List, [], ◌∷◌, length, map, replicate, All, Option, Some, None, slice_index_or, if◌then◌else◌}
+use Rattle.std.specs.List.{enumerate_from}
+use Rattle.vod_design.specs.declared.thin.Bit.{Bit}
+use Rattle.vod_design.specs.declared.thin.Bit.TheVariants.{X, Z}
+use Rattle.vod_design.specs.declared.thin.Move.{Move}
+use Rattle.vod_design.specs.Bits.{value_at, same_bit}
+use Rattle.vod_design.specs.Expr.{value_of}
+use Rattle.vod_design.specs.Netlist.{Netlist, has}
+
+-- a value per signal; per input the assignment not yet taken; per driver whether it awaits evaluation, and its pending value
+pub record State : Type 0 where
+  pub val : List Bit
+  pub moves : List (Option Bit)
+  pub wake : List Bool
+  pub pend : List (Option Bit)
+
+-- what a list of optional values has at a place, none past its end
+abbrev pub option_at : List (Option Bit) → ℕ → Option Bit
+option_at options place = slice_index_or options place None
+
+-- what a list of flags has at a place, false past its end
+abbrev pub flag_at : List Bool → ℕ → Bool
+flag_at flags place = slice_index_or flags place false
+
+-- before any step: inputs are z and all else is x, and every driver awaits evaluation
+abbrev pub start_of : Netlist → State
+start_of d = record {
+  val = map (λ e. if has d.inputs e.0 then Z else X) (enumerate_from 0 d.signals);
+  moves = replicate (length d.inputs) None;
+  wake = replicate (length d.drivers) true;
+  pend = replicate (length d.drivers) None;
+}
+
+-- the value that some assignments give an input, or none
+abbrev pub assignment : List Move → ℕ → Option Bit
+assignment [] i = None
+assignment (move ∷ moves) i = if move.input == i then Some move.value else assignment moves i
+
+-- a slot opens: the assignments become moves
+abbrev pub opened : Netlist → List Move → State → State
+opened d moves st = record st { moves = map (λ e. assignment moves e.0) (enumerate_from 0 d.inputs) }
+
+-- nothing is left
+pub record IsResting (st : State) : Type 0 where
+  pub moves : All (λ move. move ≡ None) st.moves
+  pub wake : All (λ flag. flag ≡ false) st.wake
+  pub pend : All (λ value. value ≡ None) st.pend
+
+-- a list for each signal, input and driver
+pub record IsShaped (d : Netlist) (st : State) : Type 0 where
+  pub val : length st.val ≡ length d.signals
+  pub moves : length st.moves ≡ length d.inputs
+  pub wake : length st.wake ≡ length d.drivers
+  pub pend : length st.pend ≡ length d.drivers
