@@ -1,0 +1,62 @@
+-- The lines of a value change dump (IEEE 1364-2005, 18.2).
+use Rattle.std.specs.Prelude.{ℕ, zero, suc, ◌+◌, ◌/◌, ◌%◌, List, [], ◌∷◌, ◌++◌, nat_lt, codes, if◌then◌else◌}
+use Rattle.std.specs.List.{enumerate_from, flat_map}
+use Rattle.std.specs.Fmt.{decimal}
+use Rattle.sha2.specs.Sha256.{sha256}
+use Rattle.hex.specs.Hex.{encode_lower}
+use Rattle.vod_design.specs.declared.thin.Bit.{Bit}
+use Rattle.vod_design.specs.declared.thin.Bit.TheVariants.{Zero, One, X, Z}
+use Rattle.vod_design.specs.declared.thin.Signal.{Signal}
+use Rattle.vod_design.specs.Netlist.{Netlist}
+
+-- a line, with its LF
+abbrev pub line : List ℕ → List ℕ
+line text = text ++ 10 ∷ []
+
+-- a number in base 94, least digit first, the digit d being the character 33 + d; of at most `more` digits past the first
+unfoldable pub code_of : ℕ → ℕ → List ℕ
+code_of zero n = (33 + n % 94) ∷ []
+code_of (suc more) n = if nat_lt n 94 then (33 + n) ∷ [] else (33 + n % 94) ∷ code_of more (n / 94)
+
+-- the code of a signal, by its number
+abbrev pub code : ℕ → List ℕ
+code n = code_of n n
+
+-- the digit of a bit: 0, 1, x or z
+abbrev pub digit : Bit → ℕ
+digit Zero = 48
+digit One = 49
+digit X = 120
+digit Z = 122
+
+-- `$var wire 1 CODE NAME $end`
+abbrev pub var_line : ℕ → Signal → List ℕ
+var_line n signal = line (codes "$var wire 1 " ++ code n ++ codes " " ++ signal.name ++ codes " $end")
+
+-- the lines before the first time: version, the digest of the source, the time unit, the scope with its variables
+abbrev pub header_text : List ℕ → Netlist → List ℕ
+header_text source d =
+    line (codes "$version vod 1 $end")
+    ++ line (codes "$comment source sha256 " ++ encode_lower (sha256 source) ++ codes " $end")
+    ++ line (codes "$timescale 1 ns $end")
+    ++ line (codes "$scope module " ++ d.name ++ codes " $end")
+    ++ flat_map (λ e. var_line e.0 e.1) (enumerate_from 0 d.signals)
+    ++ line (codes "$upscope $end")
+    ++ line (codes "$enddefinitions $end")
+
+-- `#TIME`
+abbrev pub time_line : ℕ → List ℕ
+time_line time = line (35 ∷ decimal time)
+
+-- the digit of a value and the code of its signal
+abbrev pub value_line : ℕ → Bit → List ℕ
+value_line n value = line (digit value ∷ code n)
+
+-- a time, and the value of each signal, between `$dumpvars` and `$end`
+abbrev pub opening_text : ℕ → List Bit → List ℕ
+opening_text time values =
+    time_line time ++ line (codes "$dumpvars") ++ flat_map (λ e. value_line e.0 e.1) (enumerate_from 0 values) ++ line (codes "$end")
+
+-- a time, and the values of the signals that changed
+abbrev pub change_text : ℕ → List (ℕ × Bit) → List ℕ
+change_text time pairs = time_line time ++ flat_map (λ pair. value_line pair.0 pair.1) pairs
