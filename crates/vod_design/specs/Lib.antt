@@ -2,3 +2,4 @@ pub mod Bits
 pub mod Expr
 pub mod Netlist
 pub mod Vectors
+pub mod Names

@@ -1,0 +1,4 @@
+pub mod Words
+pub mod Lexemes
+pub mod Syntax
+pub mod Thin
