@@ -2,3 +2,4 @@ pub mod Words
 pub mod Lexemes
 pub mod Syntax
 pub mod Thin
+pub mod Front

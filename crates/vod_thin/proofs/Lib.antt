@@ -1,0 +1,5 @@
+pub mod WordLemmas
+pub mod FrontLemmas
+pub mod FrontLaws
+pub mod FallsLaws
+pub mod TokenLemmas
