@@ -3,3 +3,4 @@ pub mod FrontLemmas
 pub mod FrontLaws
 pub mod FallsLaws
 pub mod TokenLemmas
+pub mod SentenceLaws

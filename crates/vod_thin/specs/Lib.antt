@@ -3,3 +3,5 @@ pub mod Lexemes
 pub mod Syntax
 pub mod Thin
 pub mod Front
+pub mod Reader
+pub mod View
