@@ -1,7 +1,5 @@
-ghost use Rattle.std.specs.Prelude.{◌≡◌, ℕ, ◌≤◌, ◌<◌, [], None, length, take, IfOk, OnOk, OnErr};
-ghost use Rattle.vod_io.specs.Told.{put_back, appended, Told};
-ghost use Rattle.vod_io.specs.Faults.{HasCause};
-ghost use Rattle.vod_io.specs.InMemory.{counted};
+ghost use Rattle.std.specs.Prelude.{◌≡◌, ◌≤◌, None, length, IfOk};
+ghost use Rattle.std.specs.String.{string_bytes};
 
 use crate::{Failed, Sink, Source};
 use std::fs::{File, Files};
@@ -9,7 +7,7 @@ use std::io;
 use std::io::{Input, Print, Read};
 use std::marker::Model;
 
-/// A file of the system as a source. Contracts see how many faults were counted.
+/// A file of the system as a source, which doesn't tell what is left.
 #[derive(Drop)]
 pub struct FileSource<R: Files> {
     rt: R,
@@ -19,17 +17,18 @@ pub struct FileSource<R: Files> {
 }
 
 impl<R: Files> Model for FileSource<R> {
-    ghost use Rattle.std.specs.Prelude.{ℕ};
+    ghost use Rattle.std.specs.String.{string_bytes};
+    ghost use Rattle.vod_io.specs.System.{FileView};
 
-    ghost Value = { ℕ };
+    ghost Value = { FileView };
 
-    ghost view = { λ s. s.faults };
+    ghost view = { λ s. record { path = string_bytes s.path; faults = s.faults } };
 }
 
 impl<R: Files> FileSource<R> {
     /// The file at `path`, which the first read opens.
     pub fn new(rt: R, path: String) -> FileSource<R>
-        ensures { result ≡ 0 }
+        ensures { result ≡ record { path = string_bytes path; faults = 0 } }
     {
         FileSource {
             rt,
@@ -43,7 +42,7 @@ impl<R: Files> FileSource<R> {
 impl<R: Files> Source for FileSource<R> {
     ghost left = { λ _. None };
 
-    ghost faults = { λ s. s };
+    ghost faults = { λ s. s.faults };
 
     fn read(&mut self, buf: &mut [u8]) -> Result<usize, Failed> {
         match read_file(&self.rt, self.path.as_str(), &mut self.file, buf) {
@@ -76,7 +75,7 @@ fn read_file<R: Files>(
     }
 }
 
-/// Standard input as a source. Contracts see how many faults were counted.
+/// Standard input as a source, which doesn't tell what is left. Contracts see its count of faults.
 #[derive(Drop)]
 pub struct StdSource<R: Input> {
     rt: R,
@@ -149,8 +148,7 @@ impl PrintErr for HostRuntime {
     }
 }
 
-/// Standard output or standard error as a sink, with no buffer between. Contracts see how many faults
-/// were counted.
+/// Standard output or standard error as a sink with no buffer, which doesn't tell what it took.
 #[derive(Drop)]
 pub struct StdSink<R: Print + PrintErr> {
     rt: R,
@@ -159,17 +157,17 @@ pub struct StdSink<R: Print + PrintErr> {
 }
 
 impl<R: Print + PrintErr> Model for StdSink<R> {
-    ghost use Rattle.std.specs.Prelude.{ℕ};
+    ghost use Rattle.vod_io.specs.System.{StreamView};
 
-    ghost Value = { ℕ };
+    ghost Value = { StreamView };
 
-    ghost view = { λ s. s.faults };
+    ghost view = { λ s. record { err = s.err; faults = s.faults } };
 }
 
 impl<R: Print + PrintErr> StdSink<R> {
     /// Standard error where `err` is true, and else standard output.
     pub fn new(rt: R, err: bool) -> StdSink<R>
-        ensures { result ≡ 0 }
+        ensures { result ≡ record { err = err; faults = 0 } }
     {
         StdSink { rt, err, faults: 0 }
     }
@@ -178,7 +176,7 @@ impl<R: Print + PrintErr> StdSink<R> {
 impl<R: Print + PrintErr> Sink for StdSink<R> {
     ghost taken = { λ _. None };
 
-    ghost faults = { λ s. s };
+    ghost faults = { λ s. s.faults };
 
     fn write(&mut self, piece: &[u8]) -> Result<usize, Failed> {
         let written = if self.err {
