@@ -4,3 +4,4 @@ pub mod FrontLaws
 pub mod FallsLaws
 pub mod TokenLemmas
 pub mod SentenceLaws
+pub mod GivesLaws
