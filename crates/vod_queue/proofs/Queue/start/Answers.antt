@@ -1,0 +1,5 @@
+use Rattle.vod_queue.proofs.Shaped.{IsShaped-start_of}
+use Rattle.vod_queue.proofs.Queue.start.Goals as goal
+
+pub invariant_of-result : goal.invariant_of-result
+invariant_of-result c = (rw c.in_ok-agenda.ensures (IsShaped-start_of c.args.design.now), c.in_ok-readers.ensures)
