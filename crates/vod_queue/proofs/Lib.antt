@@ -8,3 +8,5 @@ pub mod Tabled
 pub mod First
 pub mod Puts
 pub mod Shaped
+pub mod Ranked
+pub mod Falls

@@ -2,7 +2,7 @@
 ghost use Rattle.std.specs.Prelude.{◌≡◌, ◌+◌, ◌<◌, ◌≢◌, ◌↔◌, All, AllPairs, length, map, if◌then◌else◌, count_by, is_some, slice_get, slice_index, IfOk};
 ghost use Rattle.std.specs.List.{enumerate_from};
 ghost use Rattle.vod_design.specs.Bits.{same_bit, value_at};
-ghost use Rattle.vod_design.specs.Netlist.{has, targets};
+ghost use Rattle.vod_design.specs.Netlist.{IsAccepted, has, targets};
 ghost use Rattle.vod_design.specs.Vectors.{assigned};
 ghost use Rattle.vod_queue.specs.State.{start_of, opened, IsShaped, IsResting};
 ghost use Rattle.vod_queue.specs.Step.{choices_of, put, pending};
@@ -37,7 +37,8 @@ impl Model for Agenda {
 impl Agenda {
     /// Before any step: inputs are z and all else is x, and every driver awaits evaluation.
     pub fn start(alloc: Global, design: &Design) -> Result<Agenda, AllocError>
-        ensures { IfOk result (λ agenda. agenda ≡ start_of design.now) }
+        ensures state { IfOk result (λ agenda. agenda ≡ start_of design.now) }
+        ensures accepted { IsAccepted design.now }
     {
         let inputs = design.inputs().len();
         let drivers = design.drivers().len();

@@ -8,6 +8,7 @@ ghost use Rattle.vod_design.specs.Vectors.{assigned};
 ghost use Rattle.vod_queue.specs.State.{start_of, opened, IsShaped, IsResting};
 ghost use Rattle.vod_queue.specs.Step.{choices_of};
 ghost use Rattle.vod_queue.specs.Choice.{Takes};
+ghost use Rattle.vod_queue.specs.Weight.{weight_of};
 
 mod agenda;
 mod flags;
@@ -40,16 +41,13 @@ pub struct Queue<'d> {
 }
 
 impl<'d> Model for Queue<'d> {
-    ghost use Rattle.std.specs.Prelude.{length};
-    ghost use Rattle.vod_queue.specs.State.{IsShaped};
-    ghost use Rattle.vod_queue.specs.Core.{Core};
-    ghost use Rattle.vod_queue.specs.Index.{IsIndex};
+    ghost use Rattle.vod_queue.specs.Core.{Core, IsQueueOf};
 
     ghost Value = { Core };
 
     ghost view = { λ a. record { design = a.design.now; state = a.agenda } };
 
-    ghost invariant = { λ a. IsShaped a.design.now a.agenda × IsIndex a.design.now.drivers (length a.design.now.signals) a.readers };
+    ghost invariant = { λ a. IsQueueOf a.design.now a.agenda a.readers };
 }
 
 impl<'d> Queue<'d> {
@@ -88,11 +86,13 @@ impl<'d> Queue<'d> {
         self.agenda.choices()
     }
 
-    /// Takes the event with this number (IEEE 1364-2005, 11.4).
+    /// Takes the event with this number (IEEE 1364-2005, 11.4). What is left weighs less then,
+    /// so a loop that takes events ends.
     pub fn step(&mut self, choice: u32)
         requires { choice < length (choices_of self.old.state) }
         ensures design { self.new.design ≡ self.old.design }
         ensures stepped { Takes self.old.design self.old.state choice self.new.state }
+        ensures falls { weight_of self.new.state < weight_of self.old.state }
     {
         self.agenda.step(self.design, &self.readers, choice);
     }
@@ -111,7 +111,6 @@ impl<'d> Queue<'d> {
         ensures shaped { IsShaped self.now.design self.now.state }
         ensures accepted { IsAccepted self.now.design }
     {
-        let _inputs = self.design.inputs();
         self.agenda.values()
     }
 }
