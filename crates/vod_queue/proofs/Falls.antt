@@ -111,12 +111,12 @@ length-woken_unless : (same : Bool) (drivers : List Driver) (s : ℕ) (flags : L
 length-woken_unless true drivers s flags = refl
 length-woken_unless false drivers s flags = length-woken drivers s flags
 
-some_within : {A : Type 0} (xs : List (Option A)) (i : ℕ) → is_some (get_or xs i None) ≡ true → i < length xs
+pub some_within : {A : Type 0} (xs : List (Option A)) (i : ℕ) → is_some (get_or xs i None) ≡ true → i < length xs
 some_within [] i h = absurd (cc)
 some_within (x ∷ xs) zero h = omega arith
 some_within (x ∷ xs) (suc i) h = let l = some_within xs i h in omega arith
 
-flag_within : (flags : List Bool) (i : ℕ) → flag_at flags i ≡ true → i < length flags
+pub flag_within : (flags : List Bool) (i : ℕ) → flag_at flags i ≡ true → i < length flags
 flag_within [] i h = absurd (cc)
 flag_within (flag ∷ flags) zero h = omega arith
 flag_within (flag ∷ flags) (suc i) h = let l = flag_within flags i h in omega arith

@@ -80,7 +80,7 @@ moves_of-more inputs moves i d once h within =
     (assignment-none (take i moves) (get_or moves i d).input (λ k e l. apart_before moves i d once h k e l)))
     (assignment-other (take i moves) (get_or moves i d)))
 
-same_state : (s t : State) → s.val ≡ t.val → s.moves ≡ t.moves → s.wake ≡ t.wake → s.pend ≡ t.pend → s ≡ t
+pub same_state : (s t : State) → s.val ≡ t.val → s.moves ≡ t.moves → s.wake ≡ t.wake → s.pend ≡ t.pend → s ≡ t
 same_state s t val moves wake pend =
     let a : s ≡ record s { val = t.val } = ap (λ v. record s { val = v }) val in
     let b : record s { val = t.val } ≡ record t { wake = s.wake; pend = s.pend } = ap (λ v. record s { val = t.val; moves = v }) moves in

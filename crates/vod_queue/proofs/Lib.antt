@@ -10,3 +10,7 @@ pub mod Puts
 pub mod Shaped
 pub mod Ranked
 pub mod Falls
+pub mod Due
+pub mod Underway
+pub mod Unique
+pub mod Ends

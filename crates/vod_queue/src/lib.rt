@@ -12,10 +12,12 @@ ghost use Rattle.vod_queue.specs.Weight.{weight_of};
 
 mod agenda;
 mod flags;
+mod orders;
 mod readers;
 mod waiting;
 
 use crate::agenda::Agenda;
+pub use crate::orders::{orders_agree, orders_end};
 use crate::readers::Readers;
 use std::alloc::{AllocError, Global};
 use std::marker::Model;
