@@ -1,0 +1,11 @@
+use Rattle.vod_queue.proofs.Ends.{same_slot_end, slot_end, same_run}
+use Rattle.vod_queue.proofs.orders.orders_agree.Goals as goal
+
+pub returns-clause-one_end : goal.returns-clause-one_end
+returns-clause-one_end c = same_slot_end
+
+pub returns-clause-settled : goal.returns-clause-settled
+returns-clause-settled c = slot_end
+
+pub returns-clause-one_run : goal.returns-clause-one_run
+returns-clause-one_run c = same_run
