@@ -2,10 +2,12 @@
 #![tactic(auto)]
 
 mod header;
+mod law;
 mod lines;
 mod writer;
 
 use std::alloc::AllocError;
+pub use law::window_is_cut;
 pub use writer::Writer;
 
 /// The refusal for want of memory.
