@@ -21,16 +21,16 @@ overwritten_by-differing_from n front (a ∷ before) (b ∷ now) at long =
     let shorter : length before ≡ length now = omega arith in
     let rest = overwritten_by-differing_from (n + 1) (front ++ b ∷ []) before now at_next shorter in
     let rest_at : overwritten_by (front ++ b ∷ before) (differing_from (n + 1) before now) ≡ front ++ b ∷ now =
-      ap (λ v. overwritten_by v (differing_from (n + 1) before now)) (sym (append_assoc front (b ∷ []) before)) ∙ rest ∙ append_assoc front (b ∷ []) now in
+    ap (λ v. overwritten_by v (differing_from (n + 1) before now)) (sym (append_assoc front (b ∷ []) before)) ∙ rest ∙ append_assoc front (b ∷ []) now in
     elim (cases_Bool (same_bit a b)) [
       | inl same ↦
-        ap (λ v. overwritten_by (front ++ v ∷ before) (differing_from n (a ∷ before) (b ∷ now))) (equal-same_bit a b same)
-        ∙ ap (λ v. overwritten_by (front ++ b ∷ before) v) (differing_from-same n a b before now same)
-        ∙ rest_at
+          ap (λ v. overwritten_by (front ++ v ∷ before) (differing_from n (a ∷ before) (b ∷ now))) (equal-same_bit a b same)
+          ∙ ap (λ v. overwritten_by (front ++ b ∷ before) v) (differing_from-same n a b before now same)
+          ∙ rest_at
       | inr changed ↦
-        ap (λ v. overwritten_by (front ++ a ∷ before) v) (differing_from-changed n a b before now changed)
-        ∙ ap (λ v. overwritten_by v (differing_from (n + 1) before now)) (set_at front a before b n at)
-        ∙ rest_at
+          ap (λ v. overwritten_by (front ++ a ∷ before) v) (differing_from-changed n a b before now changed)
+          ∙ ap (λ v. overwritten_by v (differing_from (n + 1) before now)) (set_at front a before b n at)
+          ∙ rest_at
     ]
 
 -- what differs, written over the values before, gives the values now

@@ -44,7 +44,8 @@ pub NotFalling-from : (moments : List Moment) → IsNonDecreasing (map (λ m. m.
 NotFalling-from [] sorted = tt
 NotFalling-from (moment ∷ moments) sorted = (
   AllFrom-by_index moment.time moments (λ k h. sorted 0 (suc k) 0 (omega arith) (omega (arith, h, length-map moments (λ (m : Moment). m.time)))),
-  NotFalling-from moments (λ i j d p q. sorted (suc i) (suc j) d (omega arith) (omega arith)))
+  NotFalling-from moments (λ i j d p q. sorted (suc i) (suc j) d (omega arith) (omega arith)),
+)
 
 pub AllFrom-from : (moments : List Moment) → All (λ m. 0 < m.time) moments → AllFrom 1 moments
 AllFrom-from [] all = tt

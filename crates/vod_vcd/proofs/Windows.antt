@@ -86,18 +86,18 @@ rest_text-is a shown printed [] b from sorted = refl
 rest_text-is a shown printed (moment ∷ moments) b from sorted =
     elim (cases_lt b moment.time) [
       | inl past ↦
-        let stops : nat_le moment.time b ≡ false = grind (arith, nat_tests) in
-        let none : filter (is_within a b) (later shown (moment ∷ moments)) ≡ [] =
+          let stops : nat_le moment.time b ≡ false = grind (arith, nat_tests) in
+          let none : filter (is_within a b) (later shown (moment ∷ moments)) ≡ [] =
           filter-fails (is_within a b) moment.time (λ change h. grind (arith, nat_tests)) shown (moment ∷ moments) (omega arith, sorted.0) in
-        rw (stops, none) refl
+          rw (stops, none) refl
       | inr upto ↦
-        let goes_on : nat_le moment.time b ≡ true = grind (arith, nat_tests) in
-        let past_a : nat_lt a moment.time ≡ true = grind (arith, nat_tests) in
-        let pairs : List (ℕ × Bit) = differing shown moment.values in
-        let kept : filter (is_within a b) (later shown (moment ∷ moments)) ≡ with_slot moment.time pairs (filter (is_within a b) (later moment.values moments)) =
+          let goes_on : nat_le moment.time b ≡ true = grind (arith, nat_tests) in
+          let past_a : nat_lt a moment.time ≡ true = grind (arith, nat_tests) in
+          let pairs : List (ℕ × Bit) = differing shown moment.values in
+          let kept : filter (is_within a b) (later shown (moment ∷ moments)) ≡ with_slot moment.time pairs (filter (is_within a b) (later moment.values moments)) =
           ap (λ v. filter (is_within a b) v) (later-slot shown moment moments)
           ∙ filter-slot_passes (is_within a b) moment.time (λ _. rw (past_a, goes_on) refl) pairs (later moment.values moments) in
-        rw goes_on (
+          rw goes_on (
           ap (λ v. slot_text shown moment.time moment.values ++ v) (rest_text-is a moment.values (printed_after shown printed moment.time moment.values) moments b from.1 sorted.1)
           ∙ sym (rest_of-slot printed moment.time pairs (filter (is_within a b) (later moment.values moments)) b)
           ∙ sym (ap (λ v. rest_of printed v b) kept))
@@ -116,26 +116,26 @@ window_text-is now [] a b sorted same = refl
 window_text-is now (moment ∷ moments) a b sorted same =
     elim (cases_lt a moment.time) [
       | inl past ↦
-        let stops : nat_le moment.time a ≡ false = grind (arith, nat_tests) in
-        let from : AllFrom (suc a) (moment ∷ moments) = (omega arith, AllFrom-weaker (suc a) moment.time moments (omega arith) sorted.0) in
-        let none : filter (is_upto a) (later now (moment ∷ moments)) ≡ [] =
+          let stops : nat_le moment.time a ≡ false = grind (arith, nat_tests) in
+          let from : AllFrom (suc a) (moment ∷ moments) = (omega arith, AllFrom-weaker (suc a) moment.time moments (omega arith) sorted.0) in
+          let none : filter (is_upto a) (later now (moment ∷ moments)) ≡ [] =
           filter-fails (is_upto a) (suc a) (λ change h. grind (arith, nat_tests)) now (moment ∷ moments) from in
-        rw (stops, none) (ap (λ v. opening_text a now ++ v) (rest_text-is a now a (moment ∷ moments) b from sorted))
+          rw (stops, none) (ap (λ v. opening_text a now ++ v) (rest_text-is a now a (moment ∷ moments) b from sorted))
       | inr upto ↦
-        let goes_on : nat_le moment.time a ≡ true = grind (arith, nat_tests) in
-        let not_past : nat_lt a moment.time ≡ false = grind (arith, nat_tests) in
-        let pairs : List (ℕ × Bit) = differing now moment.values in
-        let rest : List Change = later moment.values moments in
-        let opening : overwritten now (filter (is_upto a) (later now (moment ∷ moments))) ≡ overwritten moment.values (filter (is_upto a) rest) =
+          let goes_on : nat_le moment.time a ≡ true = grind (arith, nat_tests) in
+          let not_past : nat_lt a moment.time ≡ false = grind (arith, nat_tests) in
+          let pairs : List (ℕ × Bit) = differing now moment.values in
+          let rest : List Change = later moment.values moments in
+          let opening : overwritten now (filter (is_upto a) (later now (moment ∷ moments))) ≡ overwritten moment.values (filter (is_upto a) rest) =
           ap (λ v. overwritten now (filter (is_upto a) v)) (later-slot now moment moments)
           ∙ ap (λ v. overwritten now v) (filter-slot_passes (is_upto a) moment.time (λ _. goes_on) pairs rest)
           ∙ overwritten-slot now moment.time pairs (filter (is_upto a) rest)
           ∙ ap (λ v. overwritten v (filter (is_upto a) rest)) (overwritten_by-differing now moment.values (sym same.0)) in
-        let changes : filter (is_within a b) (later now (moment ∷ moments)) ≡ filter (is_within a b) rest =
+          let changes : filter (is_within a b) (later now (moment ∷ moments)) ≡ filter (is_within a b) rest =
           ap (λ v. filter (is_within a b) v) (later-slot now moment moments)
           ∙ filter-slot_fails (is_within a b) moment.time (λ _. rw not_past refl) pairs rest in
-        let P : ℕ → Type 0 = λ n. SameLength n moments in
-        rw (goes_on, opening, changes) (window_text-is moment.values moments a b sorted.1 (subst P (sym same.0) same.1))
+          let P : ℕ → Type 0 = λ n. SameLength n moments in
+          rw (goes_on, opening, changes) (window_text-is moment.values moments a b sorted.1 (subst P (sym same.0) same.1))
     ]
 
 four_parts : (a b c d : List ℕ) → a ++ (b ++ (c ++ d)) ≡ a ++ b ++ c ++ d
@@ -156,5 +156,5 @@ cut-full_dump first moments sorted past =
     let to = AllTo-last_moment 0 moments (NotFalling-from moments sorted) (AllFrom-weaker 0 1 moments (omega arith) from) in
     let none : filter (is_upto 0) (later first moments) ≡ [] = filter-fails (is_upto 0) 1 (λ change h. grind (arith, nat_tests)) first moments from in
     let all : filter (is_within 0 last) (later first moments) ≡ later first moments =
-      filter-passes (is_within 0 last) 1 last (λ change h k. grind (arith, nat_tests)) first moments from to.1 in
+    filter-passes (is_within 0 last) 1 last (λ change h k. grind (arith, nat_tests)) first moments from to.1 in
     rw (none, all) refl

@@ -17,5 +17,4 @@ pub fn window_is_cut()
         IsNonDecreasing (map (λ m. m.time) moments) →
         All (λ m. 0 < m.time) moments →
         cut (full_dump first moments) 0 (last_moment 0 moments) ≡ full_dump first moments }
-{
-}
+{}

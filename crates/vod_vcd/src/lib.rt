@@ -6,8 +6,8 @@ mod law;
 mod lines;
 mod writer;
 
-use std::alloc::AllocError;
 pub use law::window_is_cut;
+use std::alloc::AllocError;
 pub use writer::Writer;
 
 /// The refusal for want of memory.
@@ -21,3 +21,6 @@ impl From<AllocError> for Memory {
         Memory
     }
 }
+
+#[cfg(test)]
+mod tests;
