@@ -1,6 +1,5 @@
 -- The signals whose values differ, one after another.
-use Rattle.std.proofs.Common.{◌≡◌, ℕ, ◌+◌, List, [], ◌∷◌, filter, map, zip, not, true, false, refl, ap, sym, ◌∙◌}
-use Rattle.std.proofs.Common.{length, inl, inr, arith}
+use Rattle.std.proofs.Common.{◌≡◌, ℕ, ◌+◌, List, [], ◌∷◌, filter, map, zip, not, true, false, refl, ap, sym, ◌∙◌, length, inl, inr, arith}
 use Rattle.std.proofs.lemmas.Bool.{cases_Bool}
 use Rattle.std.specs.List.{enumerate_from}
 use Rattle.vod_design.specs.declared.thin.Bit.{Bit}

@@ -1,10 +1,10 @@
 -- Values overwritten by the changes of later slots.
-use Rattle.std.proofs.Common.{◌≡◌, ℕ, suc, ◌+◌, List, [], ◌∷◌, ◌++◌, length, fold, slice_set, filter, nat_le, not, Bool, true, false, refl, ap, sym, ◌∙◌, append_assoc, length-append, arith, inl, inr}
+use Rattle.std.proofs.Common.{◌≡◌, ℕ, ◌+◌, List, [], ◌∷◌, ◌++◌, length, fold, slice_set, refl, ap, sym, ◌∙◌, append_assoc, length-append, arith, inl, inr}
 use Rattle.std.proofs.lemmas.Bool.{cases_Bool}
 use Rattle.std.proofs.lemmas.List.{set_at}
 use Rattle.vod_design.specs.declared.thin.Bit.{Bit}
 use Rattle.vod_design.specs.Bits.{same_bit}
-use Rattle.vod_vcd.specs.Dump.{Change, differing, overwritten, is_empty}
+use Rattle.vod_vcd.specs.Dump.{differing}
 use Rattle.vod_vcd.proofs.Differ.{differing_from, differing_from-same, differing_from-changed, equal-same_bit}
 
 -- values overwritten by one slot's pairs

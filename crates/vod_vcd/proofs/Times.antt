@@ -1,8 +1,9 @@
 -- Times of moments that don't fall, one after another.
-use Rattle.std.proofs.Common.{◌≡◌, ℕ, zero, suc, ◌+◌, ◌<◌, ◌≤◌, List, [], ◌∷◌, length, map, All, arith, get_or}
+use Rattle.std.proofs.Common.{◌≡◌, ℕ, suc, ◌<◌, ◌≤◌, List, [], ◌∷◌, length, map, All, arith, get_or, inl, inr, ◌+◌, zero, add-one}
 use Rattle.std.proofs.lemmas.List.{length-map}
-use Rattle.std.specs.List.Sorted.{IsNonDecreasing}
-use Rattle.vod_design.specs.declared.thin.Bit.{Bit}
+use Rattle.std.proofs.lemmas.Bool.{cases_lt}
+use Rattle.std.proofs.lemmas.List.Sorted.{IsNonDecreasingBy-from_default}
+use Rattle.std.specs.List.Sorted.{IsNonDecreasing, IsStrictlyIncreasing}
 use Rattle.vod_vcd.specs.Dump.{Moment, last_moment}
 
 -- no moment is before a time
@@ -54,3 +55,17 @@ AllFrom-from (moment ∷ moments) all = (all 0 moment (omega arith), AllFrom-fro
 pub SameLength-from : (n : ℕ) (moments : List Moment) → All (λ m. length m.values ≡ n) moments → SameLength n moments
 SameLength-from n [] all = tt
 SameLength-from n (moment ∷ moments) all = (all 0 moment (omega arith), SameLength-from n moments (λ k d h. all (suc k) d (omega arith)))
+
+le-get_or : (xs : List ℕ) → IsStrictlyIncreasing xs → (i j : ℕ) → i ≤ j → j < length xs → get_or xs i 0 ≤ get_or xs j 0
+le-get_or xs rise i zero p q = let same : i ≡ 0 = omega arith in rw same (omega arith)
+le-get_or xs rise i (suc j) p q =
+    elim (cases_lt i (suc j)) [
+      | inl before ↦
+          let step : get_or xs j 0 < get_or xs (j + 1) 0 = rise j (omega arith) in
+          omega (arith, le-get_or xs rise i j (omega arith) (omega arith), rw add-one at step)
+      | inr here ↦ let same : i ≡ suc j = omega arith in rw same (omega arith)
+    ]
+
+-- Numbers that rise don't fall, for a caller whose times rise.
+pub IsNonDecreasing-from_increasing : (xs : List ℕ) → IsStrictlyIncreasing xs → IsNonDecreasing xs
+IsNonDecreasing-from_increasing xs rise = IsNonDecreasingBy-from_default (λ x. x) xs 0 (le-get_or xs rise)

@@ -1,13 +1,13 @@
 -- A window, written slot by slot, is the text of the full dump's cut.
-use Rattle.std.proofs.Common.{◌≡◌, ℕ, suc, ◌<◌, ◌≤◌, List, [], ◌∷◌, ◌++◌, length, map, filter, All, nat_le, nat_lt, ◌&&◌, not, Bool, true, false, cond, refl, ap, sym, ◌∙◌, append_assoc, append-nil, arith, inl, inr, subst}
-use Rattle.std.proofs.lemmas.Bool.{cases_lt, le-leb}
+use Rattle.std.proofs.Common.{◌≡◌, ℕ, suc, ◌<◌, ◌≤◌, List, [], ◌∷◌, ◌++◌, length, map, filter, All, nat_le, nat_lt, ◌&&◌, not, Bool, true, false, refl, ap, sym, ◌∙◌, append_assoc, arith, inl, inr, subst}
+use Rattle.std.proofs.lemmas.Bool.{cases_lt}
 use Rattle.std.proofs.lemmas.Bool.Decides.{nat_tests}
 use Rattle.std.specs.List.{flat_map}
 use Rattle.std.specs.List.Sorted.{IsNonDecreasing}
 use Rattle.vod_design.specs.declared.thin.Bit.{Bit}
 use Rattle.vod_design.specs.Netlist.{Netlist}
 use Rattle.vod_vcd.specs.Text.{header_text, opening_text, change_text}
-use Rattle.vod_vcd.specs.Dump.{Moment, Change, Dump, differing, slot_changes, is_empty, last_moment, full_dump, overwritten, cut, last_change, closing_text, dump_text}
+use Rattle.vod_vcd.specs.Dump.{Moment, Change, differing, slot_changes, is_empty, last_moment, full_dump, overwritten, cut, last_change, closing_text, dump_text}
 use Rattle.vod_vcd.specs.Stream.{slot_text_of, slot_text, printed_of, printed_after, rest_text, window_text}
 use Rattle.vod_vcd.proofs.Times.{AllFrom, AllTo, NotFalling, SameLength, AllFrom-weaker, AllTo-last_moment, NotFalling-from, AllFrom-from, SameLength-from}
 use Rattle.vod_vcd.proofs.Overwrite.{overwritten_by, overwritten_by-differing}

@@ -1,4 +1,4 @@
-ghost use Rattle.std.specs.Prelude.{◌≡◌, [], length, replicate, IfOk, OnOk, OnErr, IsOk};
+ghost use Rattle.std.specs.Prelude.{◌≡◌, [], length, vec_len, replicate, IfOk, OnOk, OnErr, IsOk};
 ghost use Rattle.vod_io.specs.Told.{Written};
 ghost use Rattle.vod_io.specs.Faults.{HasCause};
 ghost use Rattle.vod_vcd.specs.Text.{header_text, opening_text};
@@ -13,13 +13,31 @@ use std::marker::Model;
 use vod_design::thin::{Bit, Design};
 use vod_io::{Failed, Sink, put_all};
 
+// What was written last: the values shown, and the time printed.
+#[derive(Debug, Drop)]
+struct Last {
+    values: Vec<Bit>,
+    time: u64,
+}
+
+impl Last {
+    fn set(&mut self, time: u64, values: &[Bit])
+        requires { vec_len self.old.values ≡ length values.now }
+        ensures values { self.new.values.items ≡ values.now }
+        ensures len { vec_len self.new.values ≡ vec_len self.old.values }
+        ensures time { self.new.time ≡ time }
+    {
+        self.values.copy_from_slice(values);
+        self.time = time;
+    }
+}
+
 /// Writes a dump (IEEE 1364-2005, 18.2) in four calls: the header, the opening, each slot, the close.
 /// Only `new` takes memory. After `Failed` the sink took a prefix of what the call writes.
 #[derive(Debug, Drop)]
 pub struct Writer {
     header: Vec<u8>,
-    shown: Vec<Bit>,
-    printed: u64,
+    last: Last,
     // The text of a call, built here before it is put.
     text: Vec<u8>,
 }
@@ -30,9 +48,9 @@ impl Model for Writer {
 
     ghost Value = { Page };
 
-    ghost view = { λ w. record { header = w.header.items; signals = vec_len w.shown; shown = w.shown.items; printed = w.printed } };
+    ghost view = { λ w. record { header = w.header.items; signals = vec_len w.last.values; shown = w.last.values.items; printed = w.last.time } };
 
-    ghost invariant = { λ w. HasRoom (vec_len w.shown) (vec_capacity w.text) };
+    ghost invariant = { λ w. HasRoom (vec_len w.last.values) (vec_capacity w.text) };
 }
 
 impl Writer {
@@ -49,8 +67,10 @@ impl Writer {
         let signals = design.signals().len();
         Ok(Writer {
             header: header_of(alloc, design, source)?,
-            shown: vec![in alloc; Bit::X; signals]?,
-            printed: 0,
+            last: Last {
+                values: vec![in alloc; Bit::X; signals]?,
+                time: 0,
+            },
             text: Vec::with_capacity(alloc, most_bytes_of(signals))?,
         })
     }
@@ -76,8 +96,7 @@ impl Writer {
         self.text.clear();
         put_opening(&mut self.text, time, values);
         put_all(out, &self.text)?;
-        self.shown.copy_from_slice(values);
-        self.printed = time;
+        self.last.set(time, values);
         Ok(())
     }
 
@@ -99,13 +118,12 @@ impl Writer {
         self.text.clear();
         put_time_line(&mut self.text, time);
         let unchanged = self.text.len();
-        put_changes(&mut self.text, &self.shown, values);
+        put_changes(&mut self.text, &self.last.values, values);
         if self.text.len() == unchanged {
             return Ok(());
         }
         put_all(out, &self.text)?;
-        self.shown.copy_from_slice(values);
-        self.printed = time;
+        self.last.set(time, values);
         Ok(())
     }
 
@@ -118,7 +136,7 @@ impl Writer {
         // Where that time was printed last there is no call of the sink.
         ensures quiet { self.old.printed ≡ time → IsOk result × (out.new ≡ out.old) }
     {
-        if self.printed == time {
+        if self.last.time == time {
             return Ok(());
         }
         self.text.clear();

@@ -1,5 +1,5 @@
 -- The design keeps the rules of designs.
-use Rattle.std.proofs.Common.{◌≡◌, ℕ, zero, suc, ◌+◌, ◌<◌, List, [], ◌∷◌, length, get_or, take, All, IsTrue, Option, Some, None, slice_get, slice_index, true, false, refl, sym, subst, ap, arith}
+use Rattle.std.proofs.Common.{◌≡◌, ℕ, zero, suc, ◌+◌, ◌<◌, List, [], ◌∷◌, length, get_or, take, All, IsTrue, Some, slice_get, slice_index, true, false, refl, sym, subst, ap, arith}
 use Rattle.std.proofs.lemmas.List.Elements.{All-cons, All-nil}
 use Rattle.vod_design.specs.declared.thin.Signal.{Signal}
 use Rattle.vod_design.specs.declared.thin.Driver.{Driver}
