@@ -1,1 +1,3 @@
 pub mod StepsLaws
+pub mod WindowLaws
+pub mod RequestLaws

@@ -1,3 +1,5 @@
 pub mod Moments
 pub mod Command
 pub mod Request
+pub mod Progress
+pub mod Windows

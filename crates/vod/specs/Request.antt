@@ -47,9 +47,6 @@ pub record IsWritten (r : Request) (before after : Option (List ℕ)) : Type 0 w
   pub run : IsRun r.design r.vectors first ends
   pub every : (start : State) (states : List State) → IsRun r.design r.vectors start states → after ≡ appended before (window_of r start states)
 
--- a legal run exists, and the sink took a prefix of the window of every legal run
+-- the sink took a prefix of the window of every legal run
 pub record IsBegun (r : Request) (before after : Option (List ℕ)) : Type 0 where
-  pub first : State
-  pub ends : List State
-  pub run : IsRun r.design r.vectors first ends
   pub every : (start : State) (states : List State) → IsRun r.design r.vectors start states → (rest : List ℕ) × Puts before after (window_of r start states) rest
