@@ -15,3 +15,4 @@ pub mod Underway
 pub mod Unique
 pub mod Ends
 pub mod Gates
+pub mod Tree
