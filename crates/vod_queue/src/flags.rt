@@ -117,14 +117,14 @@ fn leaves_for(len: usize) -> (u32, u32)
 }
 
 /// Counts one more, or one less, in the nodes from this one up to the root.
-fn recount(counts: &mut Vec<u32>, leaves: u32, node: u32, added: bool)
-    requires size { length counts.old.items ≡ 2 * leaves }
+fn recount(counts: &mut [u32], leaves: u32, node: u32, added: bool)
+    requires size { length counts.old ≡ 2 * leaves }
     requires within { node < leaves }
-    requires small { (n : ℕ) → 1 ≤ n → n ≤ node → slice_index counts.old.items n ≤ 2 ^ 26 }
-    requires sums { AreSumsBut node added leaves counts.old.items }
-    ensures size { length counts.new.items ≡ 2 * leaves }
-    ensures leaves { (n : ℕ) → leaves ≤ n → slice_index counts.new.items n ≡ slice_index counts.old.items n }
-    ensures sums { AreSums leaves counts.new.items }
+    requires small { (n : ℕ) → 1 ≤ n → n ≤ node → slice_index counts.old n ≤ 2 ^ 26 }
+    requires sums { AreSumsBut node added leaves counts.old }
+    ensures size { length counts.new ≡ 2 * leaves }
+    ensures leaves { (n : ℕ) → leaves ≤ n → slice_index counts.new n ≡ slice_index counts.old n }
+    ensures sums { AreSums leaves counts.new }
 {
     let mut node = node;
     while node > 0 {

@@ -4,11 +4,11 @@ use Rattle.vod_queue.proofs.flags.recount.Given as goal
 
 abbrev pub invariant-loop-node : goal.invariant-loop-node
 invariant-loop-node l = record {
-  size : length l.counts.items ≡ 2 * l.leaves;
+  size : length l.counts ≡ 2 * l.leaves;
   within : l.node < l.leaves;
-  small : (n : ℕ) → 1 ≤ n → n ≤ l.node → slice_index l.counts.items n ≤ 2 ^ 26;
-  same : (n : ℕ) → l.leaves ≤ n → slice_index l.counts.items n ≡ slice_index l.initial.counts.items n;
-  sums : AreSumsBut l.node l.added l.leaves l.counts.items;
+  small : (n : ℕ) → 1 ≤ n → n ≤ l.node → slice_index l.counts n ≤ 2 ^ 26;
+  same : (n : ℕ) → l.leaves ≤ n → slice_index l.counts n ≡ slice_index l.initial.counts n;
+  sums : AreSumsBut l.node l.added l.leaves l.counts;
 }
 
 abbrev pub decreases-loop-node : goal.decreases-loop-node
