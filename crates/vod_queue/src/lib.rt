@@ -14,6 +14,8 @@ mod agenda;
 mod flags;
 mod orders;
 mod readers;
+#[cfg(test)]
+mod tests;
 mod waiting;
 
 use crate::agenda::Agenda;
