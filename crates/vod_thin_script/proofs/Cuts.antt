@@ -1,8 +1,8 @@
 -- A text is cut at a byte in one way, and texts that lack a byte.
-use Rattle.std.proofs.Common.{◌≡◌, ◌≢◌, ℕ, suc, ◌<◌, ◌+◌, arith, List, [], ◌∷◌, ◌++◌, length, get_or, take, drop, refl, sym, ap, subst, true, false, not, ◌==◌, ◌&&◌, ◌||◌, Bool, IsTrue, Some, None, Option, cond, nat_lt, one-add, position, unwrap_or}
+use Rattle.std.proofs.Common.{◌≡◌, ℕ, ◌+◌, arith, List, [], ◌∷◌, ◌++◌, length, take, drop, refl, sym, subst, true, false, not, ◌==◌, Bool, Some, None, Option, cond, nat_lt, one-add, position, unwrap_or}
 use Rattle.std.proofs.lemmas.Bool.Decides.{nat_tests}
 use Rattle.std.proofs.lemmas.List.Sums.{prefix_len-le-length}
-use Rattle.std.specs.List.{AllByRecursion, list_all, position_or_len}
+use Rattle.std.specs.List.{position_or_len}
 use Rattle.vod_thin_script.specs.Pieces.{Lacks, StopsAt}
 
 pub cut_once : (b : ℕ) (xs ys us vs : List ℕ) → Lacks b xs → Lacks b ys → StopsAt b us → StopsAt b vs → xs ++ us ≡ ys ++ vs → (xs ≡ ys) × (us ≡ vs)

@@ -1,9 +1,8 @@
 -- Lawful vectors, as lines are read.
-use Rattle.std.proofs.Common.{◌≡◌, ◌≢◌, ℕ, zero, suc, ◌<◌, ◌≤◌, ◌+◌, ◌^◌, arith, List, [], ◌∷◌, ◌++◌, length, map, get_or, refl, sym, ap, ◌∙◌, subst, true, false, ◌==◌, ◌&&◌, Bool, IsTrue, All, inl, inr, append_assoc, append-nil, length-append}
+use Rattle.std.proofs.Common.{◌≡◌, ℕ, zero, suc, ◌<◌, ◌≤◌, ◌+◌, ◌^◌, arith, List, [], ◌∷◌, ◌++◌, length, get_or, refl, sym, ap, ◌∙◌, subst, IsTrue, All, inl, inr, length-append}
 use Rattle.std.proofs.lemmas.Bool.{cases_lt}
-use Rattle.std.proofs.lemmas.Bool.Decides.{nat_tests}
 use Rattle.std.proofs.lemmas.List.{map-append, length-map, get_or_push}
-use Rattle.std.proofs.lemmas.List.Elements.{All-push, All-head}
+use Rattle.std.proofs.lemmas.List.Elements.{All-push}
 use Rattle.std.proofs.lemmas.Grind.{get_or_default_zero}
 use Rattle.std.proofs.Math.ListN.{get_or-append}
 use Rattle.std.proofs.Math.Seq.{get_or-append_seam}
@@ -13,7 +12,6 @@ use Rattle.vod_design.specs.declared.thin.Move.{Move}
 use Rattle.vod_design.specs.declared.thin.Vector.{Vector}
 use Rattle.vod_design.specs.Netlist.{Netlist, has}
 use Rattle.vod_design.specs.Vectors.{IsVector, IsLawful, assigned, times, gives_all, last_time, last_time_after}
-use Rattle.vod_design.specs.Names.{HasPlainNames}
 use Rattle.vod_thin_script.specs.Reading.{AreLastTimes}
 use Rattle.vod_thin_script.proofs.Once.{and_both}
 

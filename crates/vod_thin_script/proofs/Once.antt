@@ -1,14 +1,14 @@
 -- A script has one list of vectors: names, assignments, lines and their lists have one reading each.
-use Rattle.std.proofs.Common.{lit≤, length-append, ◌≡◌, ◌≢◌, ℕ, zero, suc, ◌<◌, ◌≤◌, ◌+◌, arith, List, [], ◌∷◌, ◌++◌, length, map, get_or, take, drop, refl, sym, ap, ◌∙◌, subst, true, false, not, ◌==◌, ◌&&◌, ◌||◌, Bool, IsTrue, inl, inr, append_assoc, append-nil, cond}
+use Rattle.std.proofs.Common.{lit≤, length-append, ◌≡◌, ◌≢◌, ℕ, ◌<◌, ◌≤◌, arith, List, [], ◌∷◌, ◌++◌, length, get_or, refl, sym, ap, ◌∙◌, subst, true, false, not, ◌==◌, ◌&&◌, ◌||◌, Bool, IsTrue, inl, inr, append_assoc, append-nil}
 use Rattle.std.proofs.lemmas.Bool.{cases_order, cases_lt}
 use Rattle.std.proofs.lemmas.List.{get_or_past, length-map, get_or-map, map-append, get_or_default}
 use Rattle.std.proofs.Math.ListN.{get_or-append}
 use Rattle.std.proofs.Math.Seq.{get_or-append_seam}
 use Rattle.std.proofs.lemmas.List.Concat.{flat_map-append}
 use Rattle.std.proofs.lemmas.List.Folds.{Any-from_list_any}
-use Rattle.std.proofs.lemmas.Bool.Decides.{nat_tests, Decides-eqb}
-use Rattle.std.proofs.lemmas.List.Elements.{All-head, All-tail, All-get_or, All-push, Contains-get_or}
-use Rattle.std.specs.List.{AllByRecursion, list_all, flat_map, All, AllPairs, Contains}
+use Rattle.std.proofs.lemmas.Bool.Decides.{Decides-eqb}
+use Rattle.std.proofs.lemmas.List.Elements.{All-head, All-tail, All-push, Contains-get_or}
+use Rattle.std.specs.List.{flat_map, All, AllPairs, Contains}
 use Rattle.std.specs.Str.Parse.{AllDigits, digits_value}
 use Rattle.std.specs.Char.{digit_value}
 use Rattle.vod_design.specs.declared.thin.Bit.{Bit}
@@ -16,7 +16,7 @@ use Rattle.vod_design.specs.declared.thin.Bit.TheVariants as bit
 use Rattle.vod_design.specs.declared.thin.Move.{Move}
 use Rattle.vod_design.specs.declared.thin.Vector.{Vector}
 use Rattle.vod_design.specs.Netlist.{Netlist, has}
-use Rattle.vod_design.specs.Vectors.{IsVector, IsLawful, assigned}
+use Rattle.vod_design.specs.Vectors.{IsVector, assigned}
 use Rattle.vod_design.specs.Names.{input_names, is_plain, HasPlainNames}
 use Rattle.vod_thin_script.specs.Pieces.{Lacks, StopsAt}
 use Rattle.vod_thin_script.specs.Script.{IsLine, AreLines, IsScript, digit_of, assignment_text}

@@ -1,15 +1,14 @@
 -- What is read of a script, line by line, and why a script is refused.
-use Rattle.std.proofs.Common.{◌≡◌, ℕ, suc, ◌<◌, ◌≤◌, ◌+◌, ◌^◌, arith, List, [], ◌∷◌, ◌++◌, length, refl, sym, ap, ◌∙◌, subst, true, false, ◌==◌, Bool, IsTrue, All, append_assoc, append-nil}
+use Rattle.std.proofs.Common.{◌≡◌, ℕ, ◌<◌, ◌≤◌, arith, List, [], ◌∷◌, ◌++◌, length, refl, sym, ap, ◌∙◌, subst, false, ◌==◌, IsTrue, All, append_assoc, append-nil}
 use Rattle.std.proofs.lemmas.Bool.Decides.{nat_tests}
 use Rattle.vod_design.specs.declared.thin.Vector.{Vector}
 use Rattle.vod_design.specs.Netlist.{Netlist}
-use Rattle.vod_design.specs.Vectors.{IsVector, IsLawful, gives_all, last_time}
+use Rattle.vod_design.specs.Vectors.{IsLawful, gives_all, last_time}
 use Rattle.vod_design.specs.Names.{HasPlainNames}
-use Rattle.vod_thin_script.specs.Pieces.{Lacks, StopsAt}
+use Rattle.vod_thin_script.specs.Pieces.{Lacks}
 use Rattle.vod_thin_script.specs.Script.{IsLine, AreLines}
 use Rattle.vod_thin_script.specs.Reading.{IsLineAfter, AreLastTimes}
-use Rattle.vod_thin_script.proofs.Cuts.{cut_once}
-use Rattle.vod_thin_script.proofs.Once.{lines_front, lines_first, line_once, lines-nil}
+use Rattle.vod_thin_script.proofs.Once.{lines_front, lines_first, line_once}
 use Rattle.vod_thin_script.proofs.Lawful.{lawful_push, last_time-push, lawful_later, lawful_form, lawful_within, lawful_first, gives_by_times, times_by_gives}
 
 -- the script is read up to the text: its lines before it are of these vectors

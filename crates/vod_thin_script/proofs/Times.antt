@@ -1,12 +1,11 @@
 -- The last times at which inputs were assigned, as assignments are read.
-use Rattle.std.proofs.Common.{◌≡◌, ◌≢◌, ℕ, suc, ◌<◌, ◌≤◌, ◌+◌, ◌↔◌, arith, List, [], ◌∷◌, ◌++◌, length, map, get_or, set, refl, sym, ap, ◌∙◌, subst, true, false, ◌==◌, ◌||◌, Bool, IsTrue, inl, inr, All, AllPairs, length-set, get_or-set_same, get_or-set_other}
+use Rattle.std.proofs.Common.{◌≡◌, ◌≢◌, ℕ, ◌<◌, ◌≤◌, ◌↔◌, arith, List, [], ◌∷◌, ◌++◌, length, get_or, set, refl, sym, ap, ◌∙◌, subst, true, false, ◌==◌, ◌||◌, Bool, IsTrue, inl, inr, All, AllPairs, length-set, get_or-set_same, get_or-set_other}
 use Rattle.std.proofs.lemmas.Bool.{cases_eq}
 use Rattle.std.proofs.lemmas.Bool.Decides.{nat_tests, Decides-eqb}
 use Rattle.std.proofs.lemmas.List.{map-append}
 use Rattle.std.proofs.lemmas.List.Elements.{All-set, All-push}
 use Rattle.std.proofs.lemmas.List.Quantifiers.{all_pairs_push}
 use Rattle.std.proofs.lemmas.List.Folds.{list_any-append, list_any_at}
-use Rattle.std.specs.List.{list_any}
 use Rattle.vod_design.specs.declared.thin.Move.{Move}
 use Rattle.vod_design.specs.Netlist.{Netlist, has}
 use Rattle.vod_design.specs.Vectors.{assigned}

@@ -1,5 +1,5 @@
 -- What the reader has judged so far.
-use Rattle.std.specs.Prelude.{◌≡◌, ◌≢◌, ℕ, ◌<◌, ◌≤◌, ◌^◌, ◌↔◌, List, [], ◌∷◌, ◌++◌, length, IsTrue, All, AllPairs, slice_index, slice_index_or}
+use Rattle.std.specs.Prelude.{◌≡◌, ◌≢◌, ℕ, ◌<◌, ◌≤◌, ◌^◌, ◌↔◌, List, [], ◌∷◌, length, IsTrue, All, AllPairs, slice_index}
 use Rattle.std.specs.Str.Parse.{digits_value}
 use Rattle.vod_text.specs.Numeral.{IsDecimal}
 use Rattle.vod_design.specs.declared.thin.Bit.{Bit}
@@ -8,7 +8,6 @@ use Rattle.vod_design.specs.declared.thin.Vector.{Vector}
 use Rattle.vod_design.specs.Bits.{is_known}
 use Rattle.vod_design.specs.Netlist.{Netlist, has}
 use Rattle.vod_design.specs.Vectors.{IsVector, assigned}
-use Rattle.vod_design.specs.Names.{input_names}
 use Rattle.vod_thin_script.specs.Script.{IsLine, digit_of, assignment_text}
 
 -- `=VALUE`, where the value is 0 or 1

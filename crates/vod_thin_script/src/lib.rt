@@ -11,6 +11,8 @@ ghost use Rattle.vod_thin_script.specs.Script.{AreLines, IsScript};
 mod inputs;
 mod line;
 mod pieces;
+#[cfg(test)]
+mod tests;
 
 use inputs::Inputs;
 use line::read_line;
