@@ -1,6 +1,6 @@
 //! The inputs of a design, by name.
 
-ghost use Rattle.std.specs.Prelude.{◌≡◌, ◌<◌, [], length, slice_index_or, Contains, IfOk, MatchOption};
+ghost use Rattle.std.specs.Prelude.{◌≡◌, ◌<◌, [], length, slice_index_or, Contains, IfOk, IfNone, IfSome};
 ghost use Rattle.vod_design.specs.Names.{HasPlainNames, input_names};
 
 use indexmap::IndexSet;
@@ -43,8 +43,8 @@ impl<'a> Inputs<'a> {
 
     /// The number of the input with this name.
     pub fn find(&self, name: &[u8]) -> Option<u32>
-        ensures none { MatchOption result (Contains (input_names self.now) name.now → ⊥) (λ _. Unit {0}) }
-        ensures found { MatchOption result (Unit {0}) (λ i. (i < length self.now.inputs) × (slice_index_or (input_names self.now) i [] ≡ name.now)) }
+        ensures none { IfNone result (¬ Contains (input_names self.now) name.now) }
+        ensures found { IfSome result (λ i. (i < length self.now.inputs) × (slice_index_or (input_names self.now) i [] ≡ name.now)) }
     {
         let index = self.names.get_index_of(name)?;
         Some(index as u32)

@@ -83,7 +83,8 @@ fn read_lines(
     requires before { All (λ t. t ≡ 0) last_times.old }
     ensures lines { IfOk result (λ vs. AreLines inputs.now script.now vs.items) }
     ensures lawful { IfOk result (λ vs. IsLawful inputs.now vs.items) }
-    ensures refused { result ≡ Err ScriptFault.Refused → (vs : List Vector) → AreLines inputs.now script.now vs → IsLawful inputs.now vs → ⊥ }
+    ensures refused { result ≡ Err ScriptFault.Refused → (vs : List Vector)
+        → AreLines inputs.now script.now vs → IsLawful inputs.now vs → ⊥ }
 {
     let mut vectors = Vec::new(alloc);
     let mut last = 0;
@@ -118,5 +119,6 @@ fn are_all(last_times: &[u64], time: u64) -> bool
 
 /// A script has one list of vectors.
 pub fn one_reading()
-    ensures { (d : Netlist) → HasPlainNames d → (bytes : List ℕ) (vs ws : List Vector) → IsScript d bytes vs → IsScript d bytes ws → vs ≡ ws }
+    ensures { (d : Netlist) → HasPlainNames d → (bytes : List ℕ) (vs ws : List Vector)
+        → IsScript d bytes vs → IsScript d bytes ws → vs ≡ ws }
 {}
