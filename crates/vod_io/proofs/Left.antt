@@ -1,6 +1,6 @@
 -- What several reads in a row took.
-use Rattle.std.proofs.Common.{◌≡◌, ℕ, suc, ◌+◌, ◌≤◌, ◌<◌, List, [], ◌∷◌, ◌++◌, length, take, get_or, Option, None, Some, refl, sym, ◌∙◌, ap, append_assoc, arith, length-append}
-use Rattle.std.proofs.lemmas.List.{take_all}
+use Rattle.std.proofs.Common.{◌≡◌, ℕ, suc, ◌+◌, ◌≤◌, ◌<◌, List, [], ◌∷◌, ◌++◌, length, take, drop, get_or, Option, None, Some, refl, sym, ◌∙◌, ap, append_assoc, arith, length-append}
+use Rattle.std.proofs.lemmas.List.{take_all, take-append-le, take-append-drop, drop-drop}
 use Rattle.std.proofs.Math.Seq.{take-suc}
 use Rattle.vod_io.specs.Told.{put_back, IsTaken}
 
@@ -29,3 +29,12 @@ take-last text n long =
     let short : n < length text = omega arith in
     let all : length text ≤ suc n = omega arith in
     sym (take-suc text n 0 short) ∙ take_all (suc n) text all
+
+-- a read that copied the first `n` of what was left behind `at`, with what is left behind these
+pub read-front : (bytes copied buf : List ℕ) (at n : ℕ) →
+    copied ≡ take n (drop at bytes) → length copied ≡ n → drop at bytes ≡ take n (copied ++ drop n buf) ++ drop (at + n) bytes
+read-front bytes copied buf at n is long =
+    let short : n ≤ length copied = omega arith in
+    let front : take n (copied ++ drop n buf) ≡ take n (drop at bytes) =
+    take-append-le n copied (drop n buf) short ∙ take_all n copied (omega arith) ∙ is in
+    rw (front, ← drop-drop n at bytes) (sym (take-append-drop n (drop at bytes)))

@@ -1,6 +1,12 @@
--- What several writes in a row took of one text: start with `Puts-start`, go on by `Puts-piece` after each
--- piece that was put whole and by `Puts-part` after one that failed, and end with `Written-last`.
-use Rattle.std.proofs.Common.{◌≡◌, ℕ, ◌-◌, List, [], ◌++◌, length, take, drop, Option, None, Some, Result, Ok, Err, refl, sym, ◌∙◌, ap, append_assoc, append-nil, arith}
+-- What several writes in a row took of one text.
+--
+-- Written one after another: `appended-more` joins the texts that were put whole. Where a write failed,
+-- `Written-stopped` is the exit, over `stopped_in_first` and `stopped_in_second`, which say of `first ++ second`
+-- in which of the two that was. `Written-then` is the exit of a last write whose result is returned as it is.
+--
+-- In a loop: start with `Puts-start`, go on by `Puts-piece` after each piece that was put whole, and end with
+-- `Written-last`, or with `Puts-part` where a piece failed.
+use Rattle.std.proofs.Common.{◌≡◌, ℕ, ◌-◌, List, [], ◌++◌, length, take, drop, Option, None, Some, Result, Ok, Err, IsErr, refl, sym, ◌∙◌, ap, append_assoc, append-nil, arith}
 use Rattle.std.proofs.lemmas.Grind.{common_steps}
 use Rattle.std.proofs.lemmas.List.{take-append-drop, take_all}
 use Rattle.vod_io.specs.Told.{appended, Puts, Written}
@@ -64,3 +70,29 @@ Written-last before mid after text piece (Ok x) so_far put =
     appended-more so_far.done piece before mid after so_far.taken put ∙ ap (λ v. appended before v) so_far.whole
 Written-last before mid after text piece (Err e) so_far put =
     (put.0, Puts-last before mid after text piece put.0 so_far put.1)
+
+-- one text was put whole, and a second written
+pub Written-then : {T E : Type 0} (before mid after : Option (List ℕ)) (first second : List ℕ) (result : Result T E) →
+    mid ≡ appended before first → Written result mid after second → Written result before after (first ++ second)
+Written-then before mid after first second result put written =
+    Written-last before mid after (first ++ second) second result (record { done = first; whole = refl; taken = put }) written
+
+-- a write failed, and a prefix was put
+pub Written-stopped : {T E : Type 0} (before after : Option (List ℕ)) (text : List ℕ) (result : Result T E) →
+    IsErr result → ((rest : List ℕ) × Puts before after text rest) → Written result before after text
+Written-stopped before after text (Ok x) failed part = cc
+Written-stopped before after text (Err e) failed part = part
+
+-- a prefix of a first text was put, and the second wasn't begun
+pub stopped_in_first : (before after : Option (List ℕ)) (first second : List ℕ) →
+    ((rest : List ℕ) × Puts before after first rest) → (rest : List ℕ) × Puts before after (first ++ second) rest
+stopped_in_first before after first second part =
+    let start = Puts-start before (first ++ second) in
+    (part.0 ++ second, Puts-part before before after (first ++ second) first second part.0 start part.1)
+
+-- a first text was put whole, and a prefix of the second
+pub stopped_in_second : (before mid after : Option (List ℕ)) (first second : List ℕ) → mid ≡ appended before first →
+    ((rest : List ℕ) × Puts mid after second rest) → (rest : List ℕ) × Puts before after (first ++ second) rest
+stopped_in_second before mid after first second put part =
+    let so_far : Puts before mid (first ++ second) second = record { done = first; whole = refl; taken = put } in
+    (part.0, Puts-last before mid after (first ++ second) second part.0 so_far part.1)

@@ -1,2 +1,4 @@
 pub mod Faults
+pub mod InMemory
+pub mod System
 pub mod Told

@@ -1,10 +1,14 @@
 //! Where bytes come from and where they go: sources and sinks, in memory and of the system.
 #![tactic(auto)]
 
+mod in_memory;
 mod reading;
+mod system;
 mod writing;
 
+pub use in_memory::{MemSink, MemSource};
 pub use reading::{FillFault, Filled, Source, fill};
+pub use system::{FileSource, PrintErr, StdSink, StdSource};
 pub use writing::{Sink, put_all};
 
 /// The refusal of a source or a sink, which counted a fault.
@@ -14,3 +18,6 @@ pub struct Failed;
 /// The refusal for want of memory.
 #[derive(Clone, Copy, Debug, PartialEq, Eq)]
 pub struct Memory;
+
+#[cfg(test)]
+mod tests;

@@ -1,5 +1,5 @@
 -- Slots and runs: any order of allowed events (IEEE 1364-2005, 11.4).
-use Rattle.std.specs.Prelude.{◌≡◌, ℕ, ◌<◌, List, [], ◌∷◌, IsTrue, Some, slice_get, slice_index}
+use Rattle.std.specs.Prelude.{◌≡◌, ℕ, List, [], ◌∷◌, IsTrue, Some, slice_get}
 use Rattle.vod_design.specs.declared.thin.Driver.{Driver}
 use Rattle.vod_design.specs.declared.thin.Move.{Move}
 use Rattle.vod_design.specs.declared.thin.Vector.{Vector}

@@ -4,8 +4,6 @@ use Rattle.std.specs.List.{enumerate_from}
 use Rattle.vod_design.specs.declared.thin.Bit.{Bit}
 use Rattle.vod_design.specs.declared.thin.Bit.TheVariants.{X, Z}
 use Rattle.vod_design.specs.declared.thin.Move.{Move}
-use Rattle.vod_design.specs.Bits.{value_at, same_bit}
-use Rattle.vod_design.specs.Expr.{value_of}
 use Rattle.vod_design.specs.Netlist.{Netlist, has}
 
 -- a value per signal; per input the assignment not yet taken; per driver whether it awaits evaluation, and its pending value

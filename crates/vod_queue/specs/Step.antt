@@ -1,5 +1,5 @@
 -- One step of the event queue (IEEE 1364-2005, 11.4): which events are allowed, and what each does.
-use Rattle.std.specs.Prelude.{◌≡◌, ℕ, ◌||◌, Bool, true, false, List, [], ◌∷◌, ◌++◌, map, filter, IsTrue, Option, Some, None, is_some, unwrap_or, slice_set, slice_get, slice_index, if◌then◌else◌}
+use Rattle.std.specs.Prelude.{ℕ, ◌||◌, Bool, true, false, List, [], ◌∷◌, ◌++◌, map, filter, Option, Some, None, is_some, unwrap_or, slice_set, slice_get, slice_index, if◌then◌else◌}
 use Rattle.std.specs.List.{enumerate_from}
 use Rattle.vod_design.specs.declared.thin.Bit.{Bit}
 use Rattle.vod_design.specs.declared.thin.Bit.TheVariants.{X}

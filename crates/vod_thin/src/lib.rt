@@ -1,8 +1,10 @@
-//! The thin form of a design and of its script, as bytes.
+//! The thin form of a design, as bytes.
 #![tactic(auto)]
 
-mod token;
+mod fault;
 mod syntax;
+mod token;
 
+pub use fault::ThinFault;
 pub use syntax::{Direction, Operator};
 pub use token::{RESERVED, Word};

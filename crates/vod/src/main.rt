@@ -1,0 +1,6 @@
+//! vod, VCD on demand.
+#![tactic(auto)]
+
+mod run;
+
+fn main() {}

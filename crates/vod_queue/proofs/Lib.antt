@@ -1,0 +1,16 @@
+pub mod Has
+pub mod Count
+pub mod Choices
+pub mod Woken
+pub mod Index
+pub mod Accepted
+pub mod Tabled
+pub mod First
+pub mod Puts
+pub mod Shaped
+pub mod Ranked
+pub mod Falls
+pub mod Due
+pub mod Underway
+pub mod Unique
+pub mod Ends

@@ -1,0 +1,13 @@
+use Rattle.std.proofs.Common.{length}
+use Rattle.vod_queue.proofs.Accepted.{reads_within_at}
+use Rattle.vod_queue.proofs.Index.{IsIndex-more}
+use Rattle.vod_queue.proofs.readers.Readers.of.Goals as goal
+
+pub add-requires : goal.add-requires
+add-requires c =
+    reads_within_at c.args.design.now c.signals.ensures.accepted _ c.loop-place.place _ c.drivers-driver-items.ensures.items c.loop-place-test.true _ c.loop-place.invariant.covers
+
+pub loop-place-preserved : goal.loop-place-preserved
+loop-place-preserved c =
+    IsIndex-more c.args.design.now.drivers c.drivers-driver-items.result.now c.loop-place.place _ (length c.args.design.now.signals) c.loop-place.readers _ c.drivers-driver-items.ensures.items c.loop-place-test.true
+    c.loop-place.invariant c.in_ok-add.ensures.same c.in_ok-add.ensures.added
