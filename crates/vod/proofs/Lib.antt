@@ -1,3 +1,5 @@
 pub mod StepsLaws
 pub mod WindowLaws
 pub mod RequestLaws
+pub mod CommandLaws
+pub mod InsideLaws

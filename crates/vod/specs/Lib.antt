@@ -3,3 +3,4 @@ pub mod Command
 pub mod Request
 pub mod Progress
 pub mod Windows
+pub mod Phases
