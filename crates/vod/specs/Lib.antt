@@ -4,3 +4,4 @@ pub mod Request
 pub mod Progress
 pub mod Windows
 pub mod Phases
+pub mod Ends

@@ -5,6 +5,7 @@ mod command;
 mod inside;
 mod phase;
 mod run;
+mod status;
 mod window;
 
 fn main() {}
