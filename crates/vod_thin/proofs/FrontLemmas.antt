@@ -52,7 +52,7 @@ fronted p (b ∷ bs) = by_test (fronted p bs) (p b) refl
     }
 
 -- a byte of names is none of the bytes that symbols of two are made of
-other_byte : (b k : ℕ) → is_name_byte k ≡ false → is_name_byte b ≡ true → nat_eq b k ≡ false
+pub other_byte : (b k : ℕ) → is_name_byte k ≡ false → is_name_byte b ≡ true → nat_eq b k ≡ false
 other_byte b k other name = by_test (nat_eq b k) refl
   where
     by_test : (v : Bool) → nat_eq b k ≡ v → nat_eq b k ≡ false

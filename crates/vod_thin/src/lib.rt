@@ -2,6 +2,9 @@
 #![tactic(auto)]
 
 mod fault;
+mod names;
+mod ports;
+mod resolve;
 mod syntax;
 mod token;
 
