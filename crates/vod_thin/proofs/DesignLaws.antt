@@ -1,10 +1,10 @@
 -- A module whose names keep the rules has an accepted design, whose inputs have plain names.
-use Rattle.std.proofs.Common.{◌≡◌, ◌≢◌, ℕ, Bool, true, false, not, cond, List, [], ◌∷◌, map, filter, length, take, refl, ap, sym, subst, ◌∙◌, arith, zero, suc, ◌+◌, ◌-◌, ◌<◌, ◌≤◌, ◌^◌, get_or, All, AllPairs, Contains, Option, None, Some, count_by, nat_le, nat_eq, ◌&&◌, ◌||◌, IsTrue, if◌then◌else◌, slice_get, lit≤}
-use Rattle.std.specs.List.{list_any, list_all, enumerate_from}
+use Rattle.std.proofs.Common.{◌≡◌, ◌≢◌, ℕ, Bool, true, false, not, List, [], ◌∷◌, map, filter, length, take, refl, ap, sym, subst, ◌∙◌, arith, zero, suc, ◌-◌, ◌<◌, ◌≤◌, ◌^◌, get_or, All, AllPairs, Contains, None, Some, count_by, nat_le, nat_eq, ◌&&◌, ◌||◌, IsTrue, if◌then◌else◌, slice_get, lit≤}
+use Rattle.std.specs.List.{list_any, list_all}
 use Rattle.std.specs.Str.{bytes_eq}
 use Rattle.std.proofs.lemmas.Bool.Decides.{nat_tests}
 use Rattle.std.proofs.lemmas.Cmp.{nat_list_eq_equiv}
-use Rattle.std.proofs.lemmas.List.{length-map, get_or-map, get_or_default}
+use Rattle.std.proofs.lemmas.List.{length-map, get_or-map}
 use Rattle.std.proofs.lemmas.List.Elements.{All-nil, All-cons, All-head, All-tail, All-weaker, All-map, All-contains}
 use Rattle.std.proofs.lemmas.List.Folds.{list_any_at, Any-from_list_any}
 use Rattle.std.proofs.lemmas.List.Kept.{AllPairs-from_increasing}
@@ -13,7 +13,6 @@ use Rattle.std.proofs.lemmas.Map.Made.{length-le_from_is_member, IsDistinct-from
 use Rattle.std.proofs.lemmas.Option.{slice_get_within, get_or_from_slice_get}
 use Rattle.std.proofs.lemmas.Slice.Eq.{bytes_eq-Decides}
 use Rattle.vod_design.specs.declared.thin.Signal.{Signal}
-use Rattle.vod_design.specs.declared.thin.Operand.{Operand}
 use Rattle.vod_design.specs.declared.thin.Driver.{Driver}
 use Rattle.vod_design.specs.Expr.{reads}
 use Rattle.vod_design.specs.Netlist.{Netlist, has, targets, has_source, IsAccepted}
@@ -23,10 +22,10 @@ use Rattle.vod_thin.specs.declared.syntax.Operator.TheVariants.{And, Xor, Or}
 use Rattle.vod_thin.specs.Words.{is_letter, is_name_byte, is_identifier, is_name}
 use Rattle.vod_thin.specs.Syntax.{Term, Value, One, Two, Assign, Port, Module}
 use Rattle.vod_thin.specs.Thin.{ports_of, is_input, is_output, inputs_lead, port_names, names, terms, target_names, place_of, operand_of, joined, expr_of, driver_of, signal_of, inputs_of, design_of, IsWellNamed}
-use Rattle.vod_thin.specs.Resolve.{HasNames, are_few, are_ordered, KeepPortRules, AreDrivers, found_driver}
+use Rattle.vod_thin.specs.Resolve.{HasNames, are_few, KeepPortRules, AreDrivers, found_driver}
 use Rattle.vod_thin.proofs.FrontLaws.{name_is_identifier}
 use Rattle.vod_thin.proofs.FrontLemmas.{and_true_left, and_true_right, other_byte}
-use Rattle.vod_thin.proofs.PortLemmas.{output_count, is_named}
+use Rattle.vod_thin.proofs.PortLemmas.{output_count}
 use Rattle.vod_thin.proofs.PlaceLaws.{Placed, placed, place_of_own, inputs_within, inputs_rise, has_inputs, Contains-filter, All-from_list_all, list_all-from_All}
 use Rattle.vod_thin.proofs.DriverLaws.{NamesInput, Fits, driver_some, driver_fits}
 
@@ -35,10 +34,10 @@ pub rules_kept : (m : Module) → IsWellNamed m → KeepPortRules m
 rules_kept m w = record {
   differ = w.differ;
   ordered =
-    let lead : inputs_lead m.more ≡ true = sym (ap (λ b. if b then inputs_lead m.more else list_all is_output m.more) w.begins) ∙ w.lead in
-    let inputs : nat_le (count_by is_input (ports_of m)) 256 ≡ true = (let few = w.few_inputs in grind (arith, nat_tests)) in
-    let outputs : nat_le (count_by is_output (ports_of m)) 256 ≡ true = (let few = w.few_outputs in grind (arith, nat_tests)) in
-    both (is_input m.first) (inputs_lead m.more) (nat_le (count_by is_input (ports_of m)) 256) (nat_le (count_by is_output (ports_of m)) 256) w.begins lead inputs outputs;
+      let lead : inputs_lead m.more ≡ true = sym (ap (λ b. if b then inputs_lead m.more else list_all is_output m.more) w.begins) ∙ w.lead in
+      let inputs : nat_le (count_by is_input (ports_of m)) 256 ≡ true = (let few = w.few_inputs in grind (arith, nat_tests)) in
+      let outputs : nat_le (count_by is_output (ports_of m)) 256 ≡ true = (let few = w.few_outputs in grind (arith, nat_tests)) in
+      both (is_input m.first) (inputs_lead m.more) (nat_le (count_by is_input (ports_of m)) 256) (nat_le (count_by is_output (ports_of m)) 256) w.begins lead inputs outputs;
 }
   where
     both : (a b c d : Bool) → a ≡ true → b ≡ true → c ≡ true → d ≡ true → (a && b && (c && d)) ≡ true
@@ -117,17 +116,17 @@ signal_names (port ∷ ports) = ap (λ ns. port.name ∷ ns) (signal_names ports
 pub plain_names : (m : Module) → HasNames m → IsWellNamed m → HasPlainNames (design_of m)
 plain_names m h w = record {
   plain = All-map (λ name. IsTrue (is_plain name)) (λ s. get_or (map (λ (signal : Signal). signal.name) (map signal_of (ports_of m))) s []) (inputs_of (ports_of m))
-    (All-weaker (λ s. s < length (ports_of m)) (λ s. IsTrue (is_plain (get_or (map (λ (signal : Signal). signal.name) (map signal_of (ports_of m))) s []))) (plain_at m h) (inputs_of (ports_of m)) (inputs_within (ports_of m)));
+      (All-weaker (λ s. s < length (ports_of m)) (λ s. IsTrue (is_plain (get_or (map (λ (signal : Signal). signal.name) (map signal_of (ports_of m))) s []))) (plain_at m h) (inputs_of (ports_of m)) (inputs_within (ports_of m)));
   differ = λ i j d before last.
-    let size : length (input_names (design_of m)) ≡ length (inputs_of (ports_of m)) = length-map (inputs_of (ports_of m)) (λ s. get_or (map (λ (signal : Signal). signal.name) (map signal_of (ports_of m))) s []) in
-    let at_i = get_or-map (λ s. get_or (map (λ (signal : Signal). signal.name) (map signal_of (ports_of m))) s []) (inputs_of (ports_of m)) i 0 d (omega arith) in
-    let at_j = get_or-map (λ s. get_or (map (λ (signal : Signal). signal.name) (map signal_of (ports_of m))) s []) (inputs_of (ports_of m)) j 0 d (omega arith) in
-    let rise : get_or (inputs_of (ports_of m)) i 0 < get_or (inputs_of (ports_of m)) j 0 = AllPairs-from_increasing (inputs_of (ports_of m)) (inputs_rise (ports_of m)) i j 0 before (omega arith) in
-    let within : get_or (inputs_of (ports_of m)) j 0 < length (ports_of m) = inputs_within (ports_of m) j 0 (omega arith) in
-    let count = length-map (ports_of m) (λ (p : Port). p.name) in
-    let apart = w.differ (get_or (inputs_of (ports_of m)) i 0) (get_or (inputs_of (ports_of m)) j 0) [] rise (omega arith) in
-    let named : map (λ (signal : Signal). signal.name) (map signal_of (ports_of m)) ≡ port_names (ports_of m) = signal_names (ports_of m) in
-    λ same. apart (sym (at_i ∙ ap (λ ns. get_or ns (get_or (inputs_of (ports_of m)) i 0) []) named) ∙ same ∙ (at_j ∙ ap (λ ns. get_or ns (get_or (inputs_of (ports_of m)) j 0) []) named));
+      let size : length (input_names (design_of m)) ≡ length (inputs_of (ports_of m)) = length-map (inputs_of (ports_of m)) (λ s. get_or (map (λ (signal : Signal). signal.name) (map signal_of (ports_of m))) s []) in
+      let at_i = get_or-map (λ s. get_or (map (λ (signal : Signal). signal.name) (map signal_of (ports_of m))) s []) (inputs_of (ports_of m)) i 0 d (omega arith) in
+      let at_j = get_or-map (λ s. get_or (map (λ (signal : Signal). signal.name) (map signal_of (ports_of m))) s []) (inputs_of (ports_of m)) j 0 d (omega arith) in
+      let rise : get_or (inputs_of (ports_of m)) i 0 < get_or (inputs_of (ports_of m)) j 0 = AllPairs-from_increasing (inputs_of (ports_of m)) (inputs_rise (ports_of m)) i j 0 before (omega arith) in
+      let within : get_or (inputs_of (ports_of m)) j 0 < length (ports_of m) = inputs_within (ports_of m) j 0 (omega arith) in
+      let count = length-map (ports_of m) (λ (p : Port). p.name) in
+      let apart = w.differ (get_or (inputs_of (ports_of m)) i 0) (get_or (inputs_of (ports_of m)) j 0) [] rise (omega arith) in
+      let named : map (λ (signal : Signal). signal.name) (map signal_of (ports_of m)) ≡ port_names (ports_of m) = signal_names (ports_of m) in
+      λ same. apart (sym (at_i ∙ ap (λ ns. get_or ns (get_or (inputs_of (ports_of m)) i 0) []) named) ∙ same ∙ (at_j ∙ ap (λ ns. get_or ns (get_or (inputs_of (ports_of m)) j 0) []) named));
 }
   where
     plain_at : (m : Module) → HasNames m → (s : ℕ) → s < length (ports_of m) → IsTrue (is_plain (get_or (map (λ (signal : Signal). signal.name) (map signal_of (ports_of m))) s []))
@@ -155,8 +154,9 @@ reads_inputs ports d (Two left op right) differ h = by_operator op
   where
     input_there : (term : Term) → NamesInput ports term → has (inputs_of ports) (place_of ports term.name) ≡ true
     input_there term h = let at = placed is_input ports term.name d differ h in has_inputs ports (place_of ports term.name) d at.within ∙ at.of_kind
+
     by_operator : (op : Operator) → All (λ s. has (inputs_of ports) s ≡ true) (place_of ports left.name ∷ place_of ports right.name ∷ [])
-      → All (λ s. has (inputs_of ports) s ≡ true) (reads (joined op (operand_of ports left) (operand_of ports right)))
+        → All (λ s. has (inputs_of ports) s ≡ true) (reads (joined op (operand_of ports left) (operand_of ports right)))
     by_operator And all = all
     by_operator Xor all = all
     by_operator Or all = all
@@ -172,7 +172,7 @@ small n le = by_limit n le (lit≤ tt)
 few_assigns : (m : Module) → IsWellNamed m → length m.assigns ≤ 256
 few_assigns m w =
     let within : length (target_names m.assigns) ≤ length (port_names (filter is_output (ports_of m))) =
-        length-le_from_is_member nat_list_eq_equiv (target_names m.assigns) (port_names (filter is_output (ports_of m))) (IsDistinct-from_AllPairs bytes_eq-Decides (target_names m.assigns) w.once) member in
+    length-le_from_is_member nat_list_eq_equiv (target_names m.assigns) (port_names (filter is_output (ports_of m))) (IsDistinct-from_AllPairs bytes_eq-Decides (target_names m.assigns) w.once) member in
     let targets = length-map m.assigns (λ (assign : Assign). assign.target) in
     let outputs = length-map (filter is_output (ports_of m)) (λ (p : Port). p.name) in
     let count = length-filter is_output (ports_of m) in
@@ -184,8 +184,8 @@ few_assigns m w =
         let (k, x, lt, reads, same) = Any-from_list_any (bytes_eq q) (target_names m.assigns) there in
         let size = length-map m.assigns (λ (assign : Assign). assign.target) in
         let target : names (port_names (filter is_output (ports_of m))) x ≡ true =
-            subst (λ n. names (port_names (filter is_output (ports_of m))) n ≡ true) reads
-            (All-map (λ n. names (port_names (filter is_output (ports_of m))) n ≡ true) (λ (assign : Assign). assign.target) m.assigns w.targets k x lt) in
+        subst (λ n. names (port_names (filter is_output (ports_of m))) n ≡ true) reads
+        (All-map (λ n. names (port_names (filter is_output (ports_of m))) n ≡ true) (λ (assign : Assign). assign.target) m.assigns w.targets k x lt) in
         ap (names (port_names (filter is_output (ports_of m)))) ((bytes_eq-Decides q x).0 same) ∙ target
 
 few_ports : (m : Module) → IsWellNamed m → length (ports_of m) ≤ 512
@@ -234,6 +234,7 @@ sourced m w s lt = by_kind (is_input (get_or (ports_of m) s m.first)) refl
   where
     ports : List Port
     ports = ports_of m
+
     driven : is_input (get_or (ports_of m) s m.first) ≡ false → has (targets (design_of m).drivers) s ≡ true
     driven e =
         let kept : Contains (filter is_output (ports_of m)) (get_or (ports_of m) s m.first) = Contains-filter is_output (ports_of m) s m.first lt (ap not e) in
@@ -248,6 +249,7 @@ sourced m w s lt = by_kind (is_input (get_or (ports_of m) s m.first)) refl
         let at : get_or (map (λ (assign : Assign). place_of (ports_of m) assign.target) m.assigns) k 0 ≡ s = get_or-map (λ (assign : Assign). place_of (ports_of m) assign.target) m.assigns k none 0 lt_k ∙ place in
         let test : nat_eq (get_or (map (λ (assign : Assign). place_of (ports_of m) assign.target) m.assigns) k 0) s ≡ true = grind (arith, nat_tests) in
         ap (λ ts. has ts s) (targets_are (ports_of m) m.assigns) ∙ list_any_at (λ t. nat_eq t s) (map (λ (assign : Assign). place_of (ports_of m) assign.target) m.assigns) k 0 (omega arith) test
+
     by_kind : (b : Bool) → is_input (get_or (ports_of m) s m.first) ≡ b → (has (inputs_of (ports_of m)) s || has (targets (design_of m).drivers) s) ≡ true
     by_kind true e = ap (λ b. b || has (targets (design_of m).drivers) s) (has_inputs (ports_of m) s m.first lt ∙ e)
     by_kind false e = ap (λ b. b || has (targets (design_of m).drivers) s) (has_inputs (ports_of m) s m.first lt ∙ e) ∙ driven e
@@ -262,7 +264,7 @@ ranked m w j driver e =
     let same : driver_of (ports_of m) (get_or m.assigns j none) ≡ driver = sym (get_or-map (driver_of (ports_of m)) m.assigns j none driver lt_j) ∙ get_or_from_slice_get (design_of m).drivers j driver driver e in
     subst (λ (x : Driver). All (λ s. IsTrue (has_source (design_of m) (take j (design_of m).drivers) s)) (reads x.value)) same
     (All-weaker (λ s. has (inputs_of (ports_of m)) s ≡ true) (λ s. IsTrue (has_source (design_of m) (take j (design_of m).drivers) s)) (λ s h. ap (λ b. b || has (targets (take j (design_of m).drivers)) s) h)
-        (reads (expr_of (ports_of m) (get_or m.assigns j none).value)) (reads_inputs (ports_of m) m.first (get_or m.assigns j none).value w.differ (w.operands j none lt_j)))
+    (reads (expr_of (ports_of m) (get_or m.assigns j none).value)) (reads_inputs (ports_of m) m.first (get_or m.assigns j none).value w.differ (w.operands j none lt_j)))
 
 -- a module whose names keep the rules has an accepted design
 pub accepted : (m : Module) → IsWellNamed m → IsAccepted (design_of m)
@@ -296,7 +298,7 @@ pub unassigned : (m : Module) (ports : List Port) (held : List (List ℕ)) (b : 
     → b ≡ list_all (λ port. names held port.name) (filter is_output ports) → b ≡ false → IsWellNamed m → ⊥
 unassigned m ports held b all named tested e w =
     let same : list_all (λ port. names held port.name) (filter is_output ports) ≡ list_all (λ port. names (target_names m.assigns) port.name) (filter is_output (ports_of m)) =
-        ap (λ h. list_all (λ port. names h port.name) (filter is_output ports)) named ∙ ap (λ (p : List Port). list_all (λ port. names (target_names m.assigns) port.name) (filter is_output p)) all in
+    ap (λ h. list_all (λ port. names h port.name) (filter is_output ports)) named ∙ ap (λ (p : List Port). list_all (λ port. names (target_names m.assigns) port.name) (filter is_output p)) all in
     let holds : list_all (λ port. names (target_names m.assigns) port.name) (filter is_output (ports_of m)) ≡ true = list_all-from_All (λ port. names (target_names m.assigns) port.name) (filter is_output (ports_of m)) w.assigned in
     cc
 
@@ -305,7 +307,7 @@ pub found : (m : Module) (ports : List Port) (held : List (List ℕ)) (b : Bool)
     → AllPairs (λ x y. x ≢ y) (target_names m.assigns) → b ≡ list_all (λ port. names held port.name) (filter is_output ports) → b ≡ true → map (found_driver ports) m.assigns ≡ map Some drivers → AreDrivers m drivers
 found m ports held b drivers kept all named once tested e drive =
     let same : list_all (λ port. names held port.name) (filter is_output ports) ≡ list_all (λ port. names (target_names m.assigns) port.name) (filter is_output (ports_of m)) =
-        ap (λ h. list_all (λ port. names h port.name) (filter is_output ports)) named ∙ ap (λ (p : List Port). list_all (λ port. names (target_names m.assigns) port.name) (filter is_output p)) all in
+    ap (λ h. list_all (λ port. names h port.name) (filter is_output ports)) named ∙ ap (λ (p : List Port). list_all (λ port. names (target_names m.assigns) port.name) (filter is_output p)) all in
     let assigned : list_all (λ port. names (target_names m.assigns) port.name) (filter is_output (ports_of m)) ≡ true = sym same ∙ sym tested ∙ e in
     let at = found_all (ports_of m) m.assigns drivers (ap (λ (p : List Port). map (found_driver p) m.assigns) (sym all) ∙ drive) in
     record { named = well_named m kept once assigned at.1; drivers_are = at.0 }
@@ -318,5 +320,5 @@ design_is m ports name signals inputs drivers all named of_signals of_inputs f =
     named (of_signals ∙ ap (map signal_of) all) (of_inputs ∙ ap inputs_of all) f.drivers_are
   where
     same : (a b : List ℕ) (c d : List Signal) (e f : List ℕ) (g h : List Driver) → a ≡ b → c ≡ d → e ≡ f → g ≡ h
-      → (let x : Netlist = record { name = a; signals = c; inputs = e; drivers = g } in let y : Netlist = record { name = b; signals = d; inputs = f; drivers = h } in x ≡ y)
+        → (let x : Netlist = record { name = a; signals = c; inputs = e; drivers = g } in let y : Netlist = record { name = b; signals = d; inputs = f; drivers = h } in x ≡ y)
     same a b c d e f g h p q r s = cc

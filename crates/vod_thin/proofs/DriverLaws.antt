@@ -1,11 +1,11 @@
 -- What assignments are found to drive, against the rules on names.
-use Rattle.std.proofs.Common.{◌≡◌, ◌≢◌, ℕ, Bool, true, false, List, [], ◌∷◌, map, filter, length, refl, ap, sym, subst, ◌∙◌, arith, zero, suc, ◌<◌, get_or, All, AllPairs, Contains, Option, None, Some, option_map, option_and_then, IsTrue, if◌then◌else◌}
+use Rattle.std.proofs.Common.{◌≡◌, ℕ, Bool, true, false, List, [], ◌∷◌, filter, refl, ap, sym, ◌∙◌, All, Option, None, Some, option_map, option_and_then, IsTrue, if◌then◌else◌}
 use Rattle.std.proofs.lemmas.List.Elements.{All-nil, All-cons, All-head, All-tail}
 use Rattle.vod_design.specs.declared.thin.Operand.{Operand}
 use Rattle.vod_design.specs.declared.thin.Expr.{Expr}
 use Rattle.vod_design.specs.declared.thin.Expr.TheVariants.{Plain}
 use Rattle.vod_design.specs.declared.thin.Driver.{Driver}
-use Rattle.vod_thin.specs.Syntax.{Term, Value, One, Two, Assign, Port, Module}
+use Rattle.vod_thin.specs.Syntax.{Term, Value, One, Two, Assign, Port}
 use Rattle.vod_thin.specs.Thin.{is_input, is_output, port_names, names, terms, place_of, operand_of, joined, expr_of, driver_of}
 use Rattle.vod_thin.specs.Resolve.{named_among, found_operand, found_value, found_driver}
 
@@ -22,7 +22,7 @@ operand_some : (ports : List Port) (term : Term) (o : Operand) → found_operand
 operand_some ports term o e = by_test (names (port_names (filter is_input ports)) term.name) refl e
   where
     by_test : (b : Bool) → names (port_names (filter is_input ports)) term.name ≡ b → option_map (λ place. let made : Operand = record { signal = place; inverted = term.inverted } in made) (if b then Some (place_of ports term.name) else None) ≡ Some o
-      → (o ≡ operand_of ports term) × NamesInput ports term
+        → (o ≡ operand_of ports term) × NamesInput ports term
     by_test true n e = (sym (let same : Some (operand_of ports term) ≡ Some o = e in cc), n)
     by_test false n e = cc
 
@@ -43,16 +43,17 @@ value_some ports (One term) x e = by_operand (found_operand ports term) refl e
 value_some ports (Two left op right) x e = by_operands (found_operand ports left) (found_operand ports right) refl refl e
   where
     by_operands : (a b : Option Operand) → found_operand ports left ≡ a → found_operand ports right ≡ b → option_and_then (λ a. option_map (λ b. joined op a b) b) a ≡ Some x
-      → (x ≡ expr_of ports (Two left op right)) × All (NamesInput ports) (terms (Two left op right))
+        → (x ≡ expr_of ports (Two left op right)) × All (NamesInput ports) (terms (Two left op right))
     by_operands None b f g e = cc
     by_operands (Some a) None f g e = cc
     by_operands (Some a) (Some b) f g e =
         let l = operand_some ports left a f in
         let r = operand_some ports right b g in
         let same : Some (joined op a b) ≡ Some x = e in
-        let is : x ≡ joined op a b = cc in
-        (is ∙ ap (λ o. joined op o b) l.0 ∙ ap (λ o. joined op (operand_of ports left) o) r.0,
-         All-cons (NamesInput ports) left (right ∷ []) l.1 (All-cons (NamesInput ports) right [] r.1 (All-nil (NamesInput ports))))
+        let is : x ≡ joined op a b = cc in (
+          is ∙ ap (λ o. joined op o b) l.0 ∙ ap (λ o. joined op (operand_of ports left) o) r.0,
+          All-cons (NamesInput ports) left (right ∷ []) l.1 (All-cons (NamesInput ports) right [] r.1 (All-nil (NamesInput ports))),
+        )
 
 value_fits : (ports : List Port) (value : Value) → All (NamesInput ports) (terms value) → found_value ports value ≡ Some (expr_of ports value)
 unfolding found_value
@@ -68,9 +69,10 @@ driver_some ports assign driver e = by_test (names (port_names (filter is_output
   where
     made : ℕ → Expr → Driver
     made target value = record { target = target; value = value }
+
     by_test : (b : Bool) (v : Option Expr) → names (port_names (filter is_output ports)) assign.target ≡ b → found_value ports assign.value ≡ v
-      → option_and_then (λ (target : ℕ). option_map (λ (value : Expr). let made : Driver = record { target = target; value = value } in made) v) (if b then Some (place_of ports assign.target) else None) ≡ Some driver
-      → (driver ≡ driver_of ports assign) × Fits ports assign
+        → option_and_then (λ (target : ℕ). option_map (λ (value : Expr). let made : Driver = record { target = target; value = value } in made) v) (if b then Some (place_of ports assign.target) else None) ≡ Some driver
+        → (driver ≡ driver_of ports assign) × Fits ports assign
     by_test false v n f e = cc
     by_test true None n f e = cc
     by_test true (Some x) n f e =

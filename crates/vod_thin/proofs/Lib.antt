@@ -11,3 +11,4 @@ pub mod RefusalLaws
 pub mod DriverLaws
 pub mod PlaceLaws
 pub mod DesignLaws
+pub mod ReadLaws

@@ -1,5 +1,5 @@
 -- Names by their texts: what a table of them answers, and a table that grows.
-use Rattle.std.proofs.Common.{◌≡◌, ◌≢◌, ℕ, zero, suc, ◌<◌, ◌≤◌, ◌+◌, arith, List, [], ◌∷◌, ◌++◌, length, map, get_or, take, drop, refl, sym, ap, ◌∙◌, subst, true, false, not, Bool, Some, None, Option, cond, nat_lt, nat_eq, position, AllPairs, All, ◌||◌, IsTrue, length-take}
+use Rattle.std.proofs.Common.{◌≡◌, ◌≢◌, ℕ, ◌<◌, ◌+◌, arith, List, [], ◌∷◌, ◌++◌, length, map, get_or, take, refl, sym, ap, ◌∙◌, subst, true, false, not, Bool, cond, position, AllPairs, ◌||◌, length-take}
 use Rattle.std.specs.Borrow.{Bor}
 use Rattle.std.specs.List.{position_or_len, list_any, prefix_len}
 use Rattle.std.specs.Str.{bytes_eq}
@@ -61,10 +61,10 @@ pub names_more : {X Y : Type 0} (f : X → Y) (g : Y → List ℕ) (xs : List X)
     → HaveNames (map g (map f (take i xs))) held → names held (g (f (get_or xs i d))) ≡ false → held' ≡ held ++ g (f (get_or xs i d)) ∷ [] → HaveNames (map g (map f (take (i + 1) xs))) held'
 names_more {X} f g xs i d held held' lt have lacks more = let name : List ℕ = g (f (get_or xs i d)) in record {
   held_are =
-    let taken : take (i + 1) xs ≡ take i xs ++ get_or xs i d ∷ [] = take_more xs i d lt in
-    let mapped : map f (take (i + 1) xs) ≡ map f (take i xs) ++ f (get_or xs i d) ∷ [] = ap (map f) taken ∙ map_push f (take i xs) (get_or xs i d) in
-    let named : map g (map f (take (i + 1) xs)) ≡ map g (map f (take i xs)) ++ name ∷ [] = ap (map g) mapped ∙ map_push g (map f (take i xs)) (f (get_or xs i d)) in
-    more ∙ ap (λ h. h ++ name ∷ []) have.held_are ∙ sym named;
+      let taken : take (i + 1) xs ≡ take i xs ++ get_or xs i d ∷ [] = take_more xs i d lt in
+      let mapped : map f (take (i + 1) xs) ≡ map f (take i xs) ++ f (get_or xs i d) ∷ [] = ap (map f) taken ∙ map_push f (take i xs) (get_or xs i d) in
+      let named : map g (map f (take (i + 1) xs)) ≡ map g (map f (take i xs)) ++ name ∷ [] = ap (map g) mapped ∙ map_push g (map f (take i xs)) (f (get_or xs i d)) in
+      more ∙ ap (λ h. h ++ name ∷ []) have.held_are ∙ sym named;
   differ = subst (AllPairs (λ a b. a ≢ b)) (sym more) (all_pairs_push (λ a b. a ≢ b) held name have.differ (λ k e l. other held name k e l lacks));
 }
 
@@ -80,7 +80,7 @@ named_twice {X} {Y} f g xs i d held lt have there differ =
     let below : k < i = omega arith in
     let first : get_or all k x ≡ x = sym (get_or-take i all k x below) ∙ ap (λ (h : List (List ℕ)). get_or h k x) (sym front) ∙ reads in
     let last : get_or all i x ≡ g (f (get_or xs i d)) =
-        get_or-map g (map f xs) i (f (get_or xs i d)) x (let mapped = length-map xs f in omega arith)
-        ∙ ap g (get_or-map f xs i d (f (get_or xs i d)) lt) in
+    get_or-map g (map f xs) i (f (get_or xs i d)) x (let mapped = length-map xs f in omega arith)
+    ∙ ap g (get_or-map f xs i d (f (get_or xs i d)) lt) in
     let name : g (f (get_or xs i d)) ≡ x = (bytes_eq-Decides (g (f (get_or xs i d))) x).0 same in
     differ k i x below (omega arith) (first ∙ sym (last ∙ name))

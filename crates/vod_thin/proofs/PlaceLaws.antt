@@ -1,16 +1,15 @@
 -- Places of names and of inputs among ports.
-use Rattle.std.proofs.Common.{◌≡◌, ◌≢◌, ℕ, Bool, true, false, not, cond, List, [], ◌∷◌, ◌++◌, map, filter, length, refl, ap, sym, subst, ◌∙◌, arith, zero, suc, ◌+◌, ◌<◌, ◌≤◌, get_or, All, AllPairs, nat_eq, ◌||◌, ◌&&◌, zero-add, Contains}
+use Rattle.std.proofs.Common.{◌≡◌, ◌≢◌, ℕ, Bool, true, false, cond, List, [], ◌∷◌, map, filter, length, refl, ap, sym, subst, ◌∙◌, arith, zero, suc, ◌+◌, ◌<◌, ◌≤◌, get_or, All, AllPairs, nat_eq, ◌||◌, ◌&&◌, zero-add, Contains}
 use Rattle.std.specs.List.{list_any, list_all, position_or_len, enumerate_from}
 use Rattle.std.specs.List.Sorted.{IsStrictlyIncreasing}
 use Rattle.std.proofs.lemmas.Bool.Decides.{nat_tests}
-use Rattle.std.proofs.lemmas.List.{length-map, get_or_default}
 use Rattle.std.proofs.lemmas.List.Elements.{All-nil, All-cons, All-tail, All-weaker, All-filter}
 use Rattle.std.proofs.lemmas.List.Folds.{list_any_none, list_all_at}
-use Rattle.std.proofs.lemmas.List.Sums.{fails_before_first, passes_at_first, prefix_len-le-length}
+use Rattle.std.proofs.lemmas.List.Sums.{fails_before_first, passes_at_first}
 use Rattle.std.proofs.lemmas.Slice.Eq.{bytes_eq-Decides}
 use Rattle.vod_design.specs.Netlist.{has}
 use Rattle.vod_thin.specs.Syntax.{Port}
-use Rattle.vod_thin.specs.Thin.{is_input, is_output, port_names, names, place_of, inputs_of}
+use Rattle.vod_thin.specs.Thin.{is_input, port_names, names, place_of, inputs_of}
 use Rattle.vod_thin.proofs.PortLemmas.{is_named, named-filter, one_place, list_any-filter_one, inputs_from}
 
 -- the place of a name that a port of one kind has
@@ -25,11 +24,12 @@ placed kind ports name d differ there =
     let within : place_of ports name < length ports = inside any in
     let at : is_named name (get_or ports (place_of ports name) d) ≡ true = passes_at_first (is_named name) ports d within in
     let kept : list_any (is_named name) (filter kind ports) ≡ kind (get_or ports (place_of ports name) d) =
-        list_any-filter_one (is_named name) kind ports (place_of ports name) d within at (λ j lt t. one_place ports name (place_of ports name) j d differ within lt at t) in
+    list_any-filter_one (is_named name) kind ports (place_of ports name) d within at (λ j lt t. one_place ports name (place_of ports name) j d differ within lt at t) in
     record { within = within; named = sym ((bytes_eq-Decides name (get_or ports (place_of ports name) d).name).0 at); of_kind = sym kept ∙ any }
   where
     past : length ports ≤ place_of ports name → list_any (is_named name) (filter kind ports) ≡ false
     past le = list_any_none (is_named name) (filter kind ports) (All-filter kind (λ port. is_named name port ≡ false) ports (λ k e lt. let before : k < position_or_len (is_named name) ports = omega arith in fails_before_first (is_named name) ports k e before))
+
     inside : list_any (is_named name) (filter kind ports) ≡ true → place_of ports name < length ports
     inside any = by_order (place_of ports name) (length ports) (λ le. let none = past le in cc)
       where
@@ -58,7 +58,7 @@ from_within n [] = All-nil (λ s. (n ≤ s) × (s < n + 0))
 from_within n (port ∷ ports) = by_test (is_input port) (All-weaker (λ s. (n + 1 ≤ s) × (s < n + 1 + length ports)) (λ s. (n ≤ s) × (s < n + suc (length ports))) (λ s h. let (a, b) = h in (omega arith, omega arith)) (inputs_from (n + 1) ports) (from_within (n + 1) ports))
   where
     by_test : (b : Bool) → All (λ s. (n ≤ s) × (s < n + suc (length ports))) (inputs_from (n + 1) ports)
-      → All (λ s. (n ≤ s) × (s < n + suc (length ports))) (map (λ (e : ℕ × Port). e.0) (cond b ((n, port) ∷ filter (λ (e : ℕ × Port). is_input e.1) (enumerate_from (n + 1) ports)) (filter (λ (e : ℕ × Port). is_input e.1) (enumerate_from (n + 1) ports))))
+        → All (λ s. (n ≤ s) × (s < n + suc (length ports))) (map (λ (e : ℕ × Port). e.0) (cond b ((n, port) ∷ filter (λ (e : ℕ × Port). is_input e.1) (enumerate_from (n + 1) ports)) (filter (λ (e : ℕ × Port). is_input e.1) (enumerate_from (n + 1) ports))))
     by_test true more = All-cons (λ s. (n ≤ s) × (s < n + suc (length ports))) n (inputs_from (n + 1) ports) (omega arith, omega arith) more
     by_test false more = more
 
@@ -81,7 +81,7 @@ from_rise n [] = λ k lt. absurd (omega arith)
 from_rise n (port ∷ ports) = by_test (is_input port) (All-weaker (λ s. (n + 1 ≤ s) × (s < n + 1 + length ports)) (λ s. n < s) (λ s h. let (a, b) = h in omega arith) (inputs_from (n + 1) ports) (from_within (n + 1) ports)) (from_rise (n + 1) ports)
   where
     by_test : (b : Bool) → All (λ s. n < s) (inputs_from (n + 1) ports) → IsStrictlyIncreasing (inputs_from (n + 1) ports)
-      → IsStrictlyIncreasing (map (λ (e : ℕ × Port). e.0) (cond b ((n, port) ∷ filter (λ (e : ℕ × Port). is_input e.1) (enumerate_from (n + 1) ports)) (filter (λ (e : ℕ × Port). is_input e.1) (enumerate_from (n + 1) ports))))
+        → IsStrictlyIncreasing (map (λ (e : ℕ × Port). e.0) (cond b ((n, port) ∷ filter (λ (e : ℕ × Port). is_input e.1) (enumerate_from (n + 1) ports)) (filter (λ (e : ℕ × Port). is_input e.1) (enumerate_from (n + 1) ports))))
     by_test true above up = increasing_cons n (inputs_from (n + 1) ports) above up
     by_test false above up = up
 
@@ -95,6 +95,7 @@ from_has n (port ∷ ports) zero d lt = by_test (is_input port) refl
   where
     none : has (inputs_from (n + 1) ports) (n + 0) ≡ false
     none = list_any_none (λ m. nat_eq m (n + 0)) (inputs_from (n + 1) ports) (All-weaker (λ s. (n + 1 ≤ s) × (s < n + 1 + length ports)) (λ s. nat_eq s (n + 0) ≡ false) (λ s h. let (a, b) = h in grind (arith, nat_tests)) (inputs_from (n + 1) ports) (from_within (n + 1) ports))
+
     by_test : (b : Bool) → is_input port ≡ b → has (map (λ (e : ℕ × Port). e.0) (cond b ((n, port) ∷ filter (λ (e : ℕ × Port). is_input e.1) (enumerate_from (n + 1) ports)) (filter (λ (e : ℕ × Port). is_input e.1) (enumerate_from (n + 1) ports)))) (n + 0) ≡ is_input port
     by_test true e = let same : nat_eq n (n + 0) ≡ true = grind (arith, nat_tests) in ap (λ b. b || has (inputs_from (n + 1) ports) (n + 0)) same ∙ sym e
     by_test false e = none ∙ sym e
@@ -102,6 +103,7 @@ from_has n (port ∷ ports) (suc s) d lt = by_test (is_input port) (ap (has (inp
   where
     place : n + suc s ≡ n + 1 + s
     place = omega arith
+
     by_test : (b : Bool) → has (inputs_from (n + 1) ports) (n + suc s) ≡ is_input (get_or ports s d) → has (map (λ (e : ℕ × Port). e.0) (cond b ((n, port) ∷ filter (λ (e : ℕ × Port). is_input e.1) (enumerate_from (n + 1) ports)) (filter (λ (e : ℕ × Port). is_input e.1) (enumerate_from (n + 1) ports)))) (n + suc s) ≡ is_input (get_or ports s d)
     by_test true more = let other : nat_eq n (n + suc s) ≡ false = grind (arith, nat_tests) in ap (λ b. b || has (inputs_from (n + 1) ports) (n + suc s)) other ∙ more
     by_test false more = more

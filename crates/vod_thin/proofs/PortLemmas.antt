@@ -1,13 +1,13 @@
 -- Laws on the order, the number and the places of ports.
-use Rattle.std.proofs.Common.{◌≡◌, ◌≢◌, ℕ, Bool, true, false, not, cond, List, [], ◌∷◌, ◌++◌, map, filter, length, take, drop, refl, ap, sym, subst, ◌∙◌, arith, zero, suc, ◌+◌, ◌-◌, ◌<◌, ◌≤◌, get_or, All, AllPairs, Option, None, Some, position, count_by, nat_le, nat_lt, ◌&&◌, ◌||◌, ◌⊎◌, inl, inr, if◌then◌else◌, zero-add, length-take, min, take_while, length-drop}
+use Rattle.std.proofs.Common.{◌≡◌, ◌≢◌, ℕ, Bool, true, false, not, cond, List, [], ◌∷◌, ◌++◌, map, filter, length, take, drop, refl, ap, sym, subst, ◌∙◌, arith, zero, suc, ◌+◌, ◌-◌, ◌<◌, ◌≤◌, get_or, All, AllPairs, None, Some, position, count_by, nat_le, nat_lt, ◌&&◌, ◌||◌, if◌then◌else◌, zero-add, length-take, min, take_while, length-drop}
 use Rattle.std.specs.List.{list_all, list_any, prefix_len, position_or_len, enumerate_from}
 use Rattle.std.specs.Str.{bytes_eq}
 use Rattle.std.proofs.lemmas.Slice.Eq.{bytes_eq-Decides}
 use Rattle.std.proofs.lemmas.Bool.Decides.{nat_tests}
-use Rattle.std.proofs.lemmas.List.{length-map, get_or-map, get_or_default, get_or-take, map_push, take_more, take-map, take_all, drop-map}
+use Rattle.std.proofs.lemmas.List.{length-map, get_or-map, get_or_default, map_push, take_more, take_all, drop-map}
 use Rattle.std.proofs.lemmas.List.Elements.{All-filter}
-use Rattle.std.proofs.lemmas.List.Quantifiers.{position-Some, all_pairs_push}
-use Rattle.std.proofs.lemmas.List.Folds.{list_any_none, list_any_at, list_all-map, Any-from_list_any}
+use Rattle.std.proofs.lemmas.List.Quantifiers.{position-Some}
+use Rattle.std.proofs.lemmas.List.Folds.{list_any_none, list_all-map}
 use Rattle.std.proofs.lemmas.List.Sums.{length-filter, fails_before_first, prefix_len-le-length}
 use Rattle.std.proofs.lemmas.List.Filters.{length-filter_both}
 use Rattle.vod_thin.specs.declared.syntax.Port as code_port
@@ -24,7 +24,7 @@ inputs_lead_is [] = refl
 inputs_lead_is (port ∷ ports) = by_test (is_input port) refl (inputs_lead_is ports)
   where
     by_test : (b : Bool) → is_input port ≡ b → list_all is_output (drop (prefix_len is_input ports) ports) ≡ inputs_lead ports
-      → list_all is_output (drop (cond b (1 + prefix_len is_input ports) 0) (port ∷ ports)) ≡ (if b then inputs_lead ports else list_all is_output ports)
+        → list_all is_output (drop (cond b (1 + prefix_len is_input ports) 0) (port ∷ ports)) ≡ (if b then inputs_lead ports else list_all is_output ports)
     by_test true e more = ap (λ n. list_all is_output (drop n (port ∷ ports))) (one_more (prefix_len is_input ports)) ∙ more
       where
         one_more : (n : ℕ) → 1 + n ≡ suc n
@@ -42,8 +42,10 @@ list_any-filter_one {X} test kind (x ∷ xs) zero d lt at one = by_kind (kind x)
         let same : get_or xs k e ≡ get_or xs k d = get_or_default xs k e d l in
         let clash : suc k ≡ 0 = one (suc k) (omega arith) (ap test (sym same) ∙ t) in absurd (omega arith)
     fails k e l false t = refl
+
     none : list_any test (filter kind xs) ≡ false
     none = list_any_none test (filter kind xs) (All-filter kind (λ y. test y ≡ false) xs (λ k e l. fails k e l (test (get_or xs k e)) refl))
+
     by_kind : (b : Bool) → kind x ≡ b → list_any test (cond b (x ∷ filter kind xs) (filter kind xs)) ≡ kind x
     by_kind true e = ap (λ b. b || list_any test (filter kind xs)) at ∙ sym e
     by_kind false e = none ∙ sym e
@@ -102,7 +104,7 @@ named_some kind ports held name i d found e =
     let there = position-Some (is_named name) ports i d at in
     let place : place_of ports name ≡ i = present (nat_lt (position_or_len (is_named name) ports) (length ports)) (position_or_len (is_named name) ports) i at in
     let kept : list_any (is_named name) (filter kind ports) ≡ kind (get_or ports i d) =
-        list_any-filter_one (is_named name) kind ports i d there.0 there.1 (λ j lt t. one_place ports name i j d found.differ there.0 lt there.1 t) in
+    list_any-filter_one (is_named name) kind ports i d there.0 there.1 (λ j lt t. one_place ports name i j d found.differ there.0 lt there.1 t) in
     ap (λ b. if b then Some (place_of ports name) else None) (named-filter kind ports name ∙ kept) ∙ ap (λ n. if kind (get_or ports i d) then Some n else None) place
 
 -- the same of ports as they are in the code
@@ -134,8 +136,9 @@ inputs_from-push n (p ∷ ports) port = by_test (is_input p) (is_input port) (in
   where
     place : n + 1 + length ports ≡ n + suc (length ports)
     place = omega arith
+
     by_test : (b t : Bool) → inputs_from (n + 1) (ports ++ port ∷ []) ≡ inputs_from (n + 1) ports ++ cond t ((n + 1 + length ports) ∷ []) []
-      → map (λ (e : ℕ × Port). e.0) (cond b ((n, p) ∷ filter (λ (e : ℕ × Port). is_input e.1) (enumerate_from (n + 1) (ports ++ port ∷ []))) (filter (λ (e : ℕ × Port). is_input e.1) (enumerate_from (n + 1) (ports ++ port ∷ []))))
+        → map (λ (e : ℕ × Port). e.0) (cond b ((n, p) ∷ filter (λ (e : ℕ × Port). is_input e.1) (enumerate_from (n + 1) (ports ++ port ∷ []))) (filter (λ (e : ℕ × Port). is_input e.1) (enumerate_from (n + 1) (ports ++ port ∷ []))))
         ≡ map (λ (e : ℕ × Port). e.0) (cond b ((n, p) ∷ filter (λ (e : ℕ × Port). is_input e.1) (enumerate_from (n + 1) ports)) (filter (λ (e : ℕ × Port). is_input e.1) (enumerate_from (n + 1) ports))) ++ cond t ((n + suc (length ports)) ∷ []) []
     by_test true t more = ap (λ ns. n ∷ ns) (more ∙ ap (λ m. inputs_from (n + 1) ports ++ cond t (m ∷ []) []) place)
     by_test false t more = more ∙ ap (λ m. inputs_from (n + 1) ports ++ cond t (m ∷ []) []) place
@@ -152,7 +155,7 @@ places_more ports i d places b lt are kept =
     let mapped : map port_of (take (i + 1) ports) ≡ map port_of (take i ports) ++ port_of port ∷ [] = ap (map port_of) taken ∙ map_push port_of (take i ports) port in
     let size : length (map port_of (take i ports)) ≡ i = length-map (take i ports) port_of ∙ length-take i ports ∙ least i (length ports) lt in
     let pushed : inputs_of (map port_of (take (i + 1) ports)) ≡ inputs_of (map port_of (take i ports)) ++ cond b (i ∷ []) [] =
-        ap inputs_of mapped ∙ inputs_of-push (map port_of (take i ports)) (port_of port) ∙ ap (λ m. inputs_of (map port_of (take i ports)) ++ cond (is_input (port_of port)) (m ∷ []) []) size ∙ ap (λ t. inputs_of (map port_of (take i ports)) ++ cond t (i ∷ []) []) (sym kept) in
+    ap inputs_of mapped ∙ inputs_of-push (map port_of (take i ports)) (port_of port) ∙ ap (λ m. inputs_of (map port_of (take i ports)) ++ cond (is_input (port_of port)) (m ∷ []) []) size ∙ ap (λ t. inputs_of (map port_of (take i ports)) ++ cond t (i ∷ []) []) (sym kept) in
     ap (λ ns. ns ++ cond b (i ∷ []) []) are ∙ sym pushed
   where
     least : (i n : ℕ) → i < n → min i n ≡ i
@@ -165,7 +168,7 @@ lead_rest ports from e =
     let size = length-drop from ports in
     let rest : take (length ports - from) (drop from ports) ≡ drop from ports = take_all (length ports - from) (drop from ports) (omega arith) in
     let count : from ≡ prefix_len is_input (map port_of ports) =
-        e ∙ length-take (prefix_len (λ (port : code_port.Port). is_input (port_of port)) ports) ports ∙ least _ _ (prefix_len-le-length (λ (port : code_port.Port). is_input (port_of port)) ports) ∙ sym (prefix_len-map is_input port_of ports) in
+    e ∙ length-take (prefix_len (λ (port : code_port.Port). is_input (port_of port)) ports) ports ∙ least _ _ (prefix_len-le-length (λ (port : code_port.Port). is_input (port_of port)) ports) ∙ sym (prefix_len-map is_input port_of ports) in
     ap (list_all (λ (port : code_port.Port). is_output (port_of port))) rest ∙ sym (list_all-map is_output port_of (drop from ports)) ∙ ap (list_all is_output) (sym (drop-map port_of from ports))
     ∙ ap (λ n. list_all is_output (drop n (map port_of ports))) count ∙ inputs_lead_is (map port_of ports)
   where
@@ -199,12 +202,12 @@ are_found ports held named differ few = record {
   held_are = named;
   differ = differ;
   few =
-    let left : nat_le (count_by is_input ports) 256 ≡ true = and_true_left (nat_le (count_by is_input ports) 256) (nat_le (count_by is_output ports) 256) few in
-    let right : nat_le (count_by is_output ports) 256 ≡ true = and_true_right (nat_le (count_by is_input ports) 256) (nat_le (count_by is_output ports) 256) few in
-    let count = output_count ports in
-    let inputs : count_by is_input ports ≤ 256 = grind (arith, nat_tests) in
-    let outputs : count_by is_output ports ≤ 256 = grind (arith, nat_tests) in
-    omega arith;
+      let left : nat_le (count_by is_input ports) 256 ≡ true = and_true_left (nat_le (count_by is_input ports) 256) (nat_le (count_by is_output ports) 256) few in
+      let right : nat_le (count_by is_output ports) 256 ≡ true = and_true_right (nat_le (count_by is_input ports) 256) (nat_le (count_by is_output ports) 256) few in
+      let count = output_count ports in
+      let inputs : count_by is_input ports ≤ 256 = grind (arith, nat_tests) in
+      let outputs : count_by is_output ports ≤ 256 = grind (arith, nat_tests) in
+      omega arith;
 }
 
 -- the ports of a module whose rules hold

@@ -1,5 +1,5 @@
 -- A refusal that a call hands on.
-use Rattle.std.proofs.Common.{◌≡◌, Result, Err, ap, sym, ◌∙◌}
+use Rattle.std.proofs.Common.{◌≡◌, Result, Err}
 use Rattle.vod_thin.specs.declared.fault.ThinFault.{ThinFault}
 use Rattle.vod_thin.specs.declared.fault.ThinFault.TheVariants.{Refused}
 

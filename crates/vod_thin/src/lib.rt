@@ -4,10 +4,12 @@
 mod fault;
 mod names;
 mod ports;
+mod read;
 mod resolve;
 mod syntax;
 mod token;
 
 pub use fault::ThinFault;
+pub use read::{one_design, read_thin};
 pub use syntax::{Direction, Operator};
 pub use token::{RESERVED, Word};

@@ -78,7 +78,10 @@ fn are_ordered(parsed: &Module, ports: &[Port]) -> bool
 fn outputs_are_among(ports: &[Port], held: &Names) -> bool
     ensures { result ≡ list_all (λ port. names held.now port.name.now) (filter (λ port. is_output (port_of port)) ports.now) }
 {
-    ports.iter().filter(|port| !is_input(port)).all(|port| held.has(port.name))
+    ports
+        .iter()
+        .filter(|port| !is_input(port))
+        .all(|port| held.has(port.name))
 }
 
 /// The signals of ports.

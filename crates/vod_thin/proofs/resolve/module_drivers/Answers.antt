@@ -27,10 +27,10 @@ returns-clause-drivers c =
     let again : c.deref-2.result.now ≡ c.args.parsed.now.assigns.items = c.deref-2.ensures.value in
     IfOk-weaker c.drivers.result (λ (drivers : Vec Driver Global). map (found_driver c.args.ports.now) (map assign_of c.deref-2.result.now) ≡ map Some drivers.items) (λ (drivers : Vec Driver Global). AreDrivers (module_of c.args.parsed.now) drivers.items)
     (λ drivers drive. found (module_of c.args.parsed.now) _ _ _ drivers.items c.requires.kept c.requires.ports
-        (c.in_ok-targets.ensures.names ∙ ap (λ (xs : List code_assign.Assign). target_names (map assign_of xs)) c.deref.ensures.value)
-        (subst (λ (xs : List code_assign.Assign). AllPairs (λ a b. a ≢ b) (target_names (map assign_of xs))) c.deref.ensures.value c.in_ok-targets.ensures.differ)
-        c.outputs_are_among.ensures c.if-not-outputs_are_among.false
-        (subst (λ (xs : List code_assign.Assign). map (found_driver c.args.ports.now) (map assign_of xs) ≡ map Some drivers.items) again drive))
+    (c.in_ok-targets.ensures.names ∙ ap (λ (xs : List code_assign.Assign). target_names (map assign_of xs)) c.deref.ensures.value)
+    (subst (λ (xs : List code_assign.Assign). AllPairs (λ a b. a ≢ b) (target_names (map assign_of xs))) c.deref.ensures.value c.in_ok-targets.ensures.differ)
+    c.outputs_are_among.ensures c.if-not-outputs_are_among.false
+    (subst (λ (xs : List code_assign.Assign). map (found_driver c.args.ports.now) (map assign_of xs) ≡ map Some drivers.items) again drive))
     c.drivers.ensures.drivers
 
 pub returns-clause-refused : goal.returns-clause-refused

@@ -1,6 +1,6 @@
 -- The parts are those of the module's design.
 use Rattle.std.proofs.Common.{sym, subst, ◌∙◌}
-use Rattle.vod_design.specs.Netlist.{Netlist, IsAccepted}
+use Rattle.vod_design.specs.Netlist.{IsAccepted}
 use Rattle.vod_design.specs.Names.{HasPlainNames}
 use Rattle.vod_thin.specs.View.{module_of}
 use Rattle.vod_thin.proofs.DesignLaws.{design_is, accepted, plain_names}

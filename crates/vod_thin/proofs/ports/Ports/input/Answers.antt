@@ -1,5 +1,5 @@
 -- The port at the place of the name is the one with this name.
-use Rattle.std.proofs.Common.{sym, ◌∙◌, ap, not, true, false}
+use Rattle.std.proofs.Common.{sym, ◌∙◌, true, false}
 use Rattle.vod_thin.specs.Thin.{is_input}
 use Rattle.vod_thin.proofs.PortLemmas.{named_none, port_at}
 use Rattle.vod_thin.proofs.ports.Ports.input.Goals as goal

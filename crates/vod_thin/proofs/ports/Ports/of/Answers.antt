@@ -1,5 +1,5 @@
 -- Ports in order whose names differ keep the rules.
-use Rattle.std.proofs.Common.{◌∙◌, ap, sym}
+use Rattle.std.proofs.Common.{◌∙◌, sym}
 use Rattle.vod_thin.specs.View.{module_of}
 use Rattle.vod_thin.proofs.PortLemmas.{kept_found, kept_rules}
 use Rattle.vod_thin.proofs.ports.Ports.of.Goals as goal
