@@ -1,15 +1,14 @@
 -- Reading token by token gives exactly the tokens that bytes fall into.
-use Rattle.std.proofs.Common.{◌≡◌, ℕ, Bool, true, false, not, ◌&&◌, ◌||◌, cond, List, [], ◌∷◌, ◌++◌, length, ◌≤◌, nat_le, nat_eq, take, drop, take_while, map, Option, None, Some, refl, ap, sym, subst, ◌∙◌, rules, arith, IsTrue, append_assoc}
+use Rattle.std.proofs.Common.{◌≡◌, ℕ, Bool, true, false, ◌&&◌, cond, List, [], ◌∷◌, ◌++◌, length, ◌≤◌, nat_eq, drop, take_while, None, Some, refl, ap, sym, subst, ◌∙◌, arith, append_assoc}
 use Rattle.std.specs.List.{list_all}
 use Rattle.std.proofs.Math.Seq.{drop-append_seam}
-use Rattle.std.proofs.lemmas.List.{append-nil, map_push}
+use Rattle.std.proofs.lemmas.List.{append-nil}
 use Rattle.std.proofs.lemmas.List.Folds.{list_all-append}
 use Rattle.std.proofs.lemmas.List.Sums.{take_while-cons}
 use Rattle.std.proofs.lemmas.Bool.{eqb-true, true≢false}
-use Rattle.vod_thin.specs.declared.token.Word.{Word}
 use Rattle.vod_thin.specs.declared.token.Word.TheVariants.{Module, Input, Output, Assign, Endmodule, Open, Close, Comma, Semicolon, Equals, And, Xor, Or, Not}
-use Rattle.vod_thin.specs.Words.{is_space, is_letter, is_name_byte, is_identifier, is_name, spelling}
-use Rattle.vod_thin.specs.Lexemes.{Lexeme, Named, Fixed, text_of, is_token, ends_before, FallsInto}
+use Rattle.vod_thin.specs.Words.{is_space, is_letter, is_identifier}
+use Rattle.vod_thin.specs.Lexemes.{Lexeme, Named, Fixed, text_of, is_token, FallsInto}
 use Rattle.vod_thin.specs.Front.{front, trimmed}
 use Rattle.vod_thin.proofs.WordLemmas.{list_all-take_while}
 use Rattle.vod_thin.proofs.FrontLemmas.{and_true_left, and_true_right, take_while-append, Fronted, fronted}
@@ -27,6 +26,7 @@ letter_is_no_space b h = tests (nat_eq b 32) refl (nat_eq b 9) refl (nat_eq b 10
   where
     none : (k : ℕ) → is_letter k ≡ false → nat_eq b k ≡ true → is_space b ≡ false
     none k other e = absurd (true≢false (sym h ∙ ap is_letter (eqb-true b k e) ∙ other))
+
     tests : (t1 : Bool) → nat_eq b 32 ≡ t1 → (t2 : Bool) → nat_eq b 9 ≡ t2 → (t3 : Bool) → nat_eq b 10 ≡ t3 → (t4 : Bool) → nat_eq b 13 ≡ t4 → (t5 : Bool) → nat_eq b 12 ≡ t5 → is_space b ≡ false
     tests true e1 t2 e2 t3 e3 t4 e4 t5 e5 = none 32 refl e1
     tests false e1 true e2 t3 e3 t4 e4 t5 e5 = none 9 refl e2
@@ -63,6 +63,7 @@ trim_sound bytes lexemes h = split_sound bytes lexemes (fronted is_space bytes) 
   where
     taken_passes : (bytes : List ℕ) → list_all is_space (take_while is_space bytes) ≡ true
     taken_passes bytes = list_all-take_while is_space bytes
+
     split_sound : (bytes : List ℕ) (lexemes : List Lexeme) → Fronted is_space bytes → list_all is_space (take_while is_space bytes) ≡ true → FallsInto (trimmed bytes) lexemes → FallsInto bytes lexemes
     split_sound bytes [] split all h =
         let rest : list_all is_space split.rest ≡ true = ap (list_all is_space) (sym (trimmed-is bytes split)) ∙ h in
@@ -70,10 +71,10 @@ trim_sound bytes lexemes h = split_sound bytes lexemes (fronted is_space bytes) 
     split_sound bytes (lexeme ∷ lexemes) split all h =
         let blanks = take_while is_space bytes in
         let joined : bytes ≡ (blanks ++ h.0) ++ text_of lexeme ++ h.1 =
-            split.whole ∙ ap (λ v. blanks ++ v) (sym (trimmed-is bytes split) ∙ h.2) ∙ simp append_assoc in
+        split.whole ∙ ap (λ v. blanks ++ v) (sym (trimmed-is bytes split) ∙ h.2) ∙ simp append_assoc in
         (blanks ++ h.0, h.1, joined, list_all-append is_space blanks h.0 ∙ ap (λ v. v && list_all is_space h.0) all ∙ h.3, h.4, h.5, h.6)
 
-trim_complete : (bytes : List ℕ) (lexemes : List Lexeme) → FallsInto bytes lexemes → FallsInto (trimmed bytes) lexemes
+pub trim_complete : (bytes : List ℕ) (lexemes : List Lexeme) → FallsInto bytes lexemes → FallsInto (trimmed bytes) lexemes
 trim_complete bytes [] h =
     let split = fronted is_space bytes in
     let all : (list_all is_space (take_while is_space bytes) && list_all is_space split.rest) ≡ true = sym (list_all-append is_space (take_while is_space bytes) split.rest) ∙ ap (list_all is_space) (sym split.whole) ∙ h in
@@ -117,17 +118,17 @@ no_blanks (b ∷ bs) text h stops =
     let taken : take_while is_space (b ∷ (bs ++ text)) ≡ b ∷ take_while is_space (bs ++ text) = take_while-cons is_space b (bs ++ text) ∙ ap (λ v. cond v (b ∷ take_while is_space (bs ++ text)) []) (and_true_left _ _ h) in
     cc
 
-some_same : {A : Type 0} {a b : A} → Some a ≡ Some b → a ≡ b
+pub some_same : {A : Type 0} {a b : A} → Some a ≡ Some b → a ≡ b
 some_same h = cc
 
-all_blank : (bytes : List ℕ) → 1 ≤ length bytes → take_while is_space bytes ≡ [] → list_all is_space bytes ≡ true → ⊥
+pub all_blank : (bytes : List ℕ) → 1 ≤ length bytes → take_while is_space bytes ≡ [] → list_all is_space bytes ≡ true → ⊥
 all_blank [] few stops h = omega arith
 all_blank (b ∷ bs) few stops h =
     let taken : take_while is_space (b ∷ bs) ≡ b ∷ take_while is_space bs = take_while-cons is_space b bs ∙ ap (λ v. cond v (b ∷ take_while is_space bs) []) (and_true_left _ _ h) in
     cc
 
 -- a token that such bytes fall into first is at their front
-falls_front : (bytes : List ℕ) (lexeme : Lexeme) (lexemes : List Lexeme) → take_while is_space bytes ≡ [] → FallsInto bytes (lexeme ∷ lexemes) → IsFront lexeme bytes × FallsInto (drop (length (text_of lexeme)) bytes) lexemes
+pub falls_front : (bytes : List ℕ) (lexeme : Lexeme) (lexemes : List Lexeme) → take_while is_space bytes ≡ [] → FallsInto bytes (lexeme ∷ lexemes) → IsFront lexeme bytes × FallsInto (drop (length (text_of lexeme)) bytes) lexemes
 falls_front bytes lexeme lexemes stops h =
     let text = text_of lexeme ++ h.1 in
     let whole : bytes ≡ h.0 ++ text = h.2 ∙ append_assoc h.0 (text_of lexeme) h.1 in
@@ -149,13 +150,13 @@ reads_more source rest done lexeme reads few e =
     record {
       sound = λ lexemes h. subst (FallsInto source) (sym (append_assoc done (lexeme ∷ []) lexemes)) (reads.sound (lexeme ∷ lexemes) (step_sound rest lexeme lexemes e (trim_sound next lexemes h)));
       complete = λ lexemes h.
-        let before = reads.complete lexemes h in
-        let begins = step_complete rest lexeme before.0 reads.stops few e before.1 in
-        (begins.more, trim_complete next begins.more begins.rest, before.2 ∙ ap (λ v. done ++ v) begins.whole ∙ sym (append_assoc done (lexeme ∷ []) begins.more));
+          let before = reads.complete lexemes h in
+          let begins = step_complete rest lexeme before.0 reads.stops few e before.1 in
+          (begins.more, trim_complete next begins.more begins.rest, before.2 ∙ ap (λ v. done ++ v) begins.whole ∙ sym (append_assoc done (lexeme ∷ []) begins.more));
       stops = trimmed_stops next;
     }
 
-empty_front : (lexeme : Lexeme) → front [] ≡ Some lexeme → ⊥
+pub empty_front : (lexeme : Lexeme) → front [] ≡ Some lexeme → ⊥
 unfolding front
 empty_front lexeme h = cc
 

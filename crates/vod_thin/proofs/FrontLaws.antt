@@ -1,17 +1,17 @@
 -- The token that a reader finds at the front is the one token that the bytes begin with.
-use Rattle.std.proofs.Common.{◌≡◌, ℕ, Bool, true, false, not, ◌&&◌, ◌||◌, cond, List, [], ◌∷◌, ◌++◌, length, ◌≤◌, nat_le, nat_eq, take, drop, take_while, Option, None, Some, option_map, refl, ap, sym, subst, ◌∙◌, rules, arith, codes, IsTrue}
+use Rattle.std.proofs.Common.{◌≡◌, ℕ, Bool, true, false, not, ◌&&◌, ◌||◌, cond, List, [], ◌∷◌, ◌++◌, nat_le, nat_eq, take_while, Option, None, Some, option_map, refl, ap, sym, subst, ◌∙◌, codes}
 use Rattle.std.specs.List.{list_all}
 use Rattle.std.specs.Str.{bytes_eq}
 use Rattle.std.proofs.lemmas.List.Sums.{take_while-cons}
 use Rattle.std.proofs.lemmas.Slice.Eq.{bytes_eq-Decides}
-use Rattle.std.proofs.lemmas.Bool.{eqb-true, eq-eqb, true≢false}
+use Rattle.std.proofs.lemmas.Bool.{eqb-true, true≢false}
 use Rattle.vod_thin.specs.declared.token.Word.{Word}
 use Rattle.vod_thin.specs.declared.token.Word.TheVariants.{Module, Input, Output, Assign, Endmodule, Open, Close, Comma, Semicolon, Equals, And, Xor, Or, Not}
-use Rattle.vod_thin.specs.Words.{is_letter, is_name_byte, is_identifier, is_reserved, is_name, are_one_token, spelling}
+use Rattle.vod_thin.specs.Words.{is_letter, is_name_byte, is_identifier, is_name, are_one_token, spelling}
 use Rattle.vod_thin.specs.Lexemes.{Lexeme, Named, Fixed, text_of, is_token, ends_before}
-use Rattle.vod_thin.specs.Front.{keyword_of, symbol_of, name_or_none, word_lexeme, joins, front}
+use Rattle.vod_thin.specs.Front.{keyword_of, symbol_of, word_lexeme, joins, front}
 use Rattle.vod_thin.proofs.WordLemmas.{list_all-take_while}
-use Rattle.vod_thin.proofs.FrontLemmas.{and_true_left, and_true_right, take_while-append, Fronted, fronted, ends_before-stops, stops-ends_before}
+use Rattle.vod_thin.proofs.FrontLemmas.{and_true_left, and_true_right, take_while-append, fronted, ends_before-stops, stops-ends_before}
 
 -- bytes begin with a token, which is as long as it can be
 pub record IsFront (lexeme : Lexeme) (bytes : List ℕ) : Type 0 where
@@ -38,10 +38,10 @@ pub keyword_spelled : (text : List ℕ) (w : Word) → keyword_of text ≡ Some 
 unfolding keyword_of
 keyword_spelled text =
     picked Module text (codes "module") refl _ (
-      picked Input text (codes "input") refl _ (
-        picked Output text (codes "output") refl _ (
-          picked Assign text (codes "assign") refl _ (
-            picked Endmodule text (codes "endmodule") refl _ (nothing_picked text)))))
+    picked Input text (codes "input") refl _ (
+    picked Output text (codes "output") refl _ (
+    picked Assign text (codes "assign") refl _ (
+    picked Endmodule text (codes "endmodule") refl _ (nothing_picked text)))))
 
 picked_symbol : (v : Word) (b a : ℕ) → spelling v ≡ a ∷ [] → (more : Option Word) → ((w : Word) → more ≡ Some w → spelling w ≡ b ∷ []) → (w : Word) → cond (nat_eq b a) (Some v) more ≡ Some w → spelling w ≡ b ∷ []
 picked_symbol v b a s more m w h = by_test (nat_eq b a) refl h
@@ -58,14 +58,14 @@ pub symbol_spelled : (b : ℕ) (w : Word) → symbol_of b ≡ Some w → spellin
 unfolding symbol_of
 symbol_spelled b =
     picked_symbol Open b 40 refl _ (
-      picked_symbol Close b 41 refl _ (
-        picked_symbol Comma b 44 refl _ (
-          picked_symbol Semicolon b 59 refl _ (
-            picked_symbol Equals b 61 refl _ (
-              picked_symbol And b 38 refl _ (
-                picked_symbol Xor b 94 refl _ (
-                  picked_symbol Or b 124 refl _ (
-                    picked_symbol Not b 126 refl _ (nothing_picked_symbol b)))))))))
+    picked_symbol Close b 41 refl _ (
+    picked_symbol Comma b 44 refl _ (
+    picked_symbol Semicolon b 59 refl _ (
+    picked_symbol Equals b 61 refl _ (
+    picked_symbol And b 38 refl _ (
+    picked_symbol Xor b 94 refl _ (
+    picked_symbol Or b 124 refl _ (
+    picked_symbol Not b 126 refl _ (nothing_picked_symbol b)))))))))
 
 -- no word or symbol of one spelling is a name
 word_is_no_name : (w : Word) → is_name (spelling w) ≡ false
@@ -185,6 +185,7 @@ found_is_front (b ∷ bs) lexeme h = by_letter (is_letter b) refl h
     by_joins : (t : Bool) → joins b bs ≡ t → cond t None (option_map Fixed (symbol_of b)) ≡ Some lexeme → IsFront lexeme (b ∷ bs)
     by_joins true one found = cc
     by_joins false one found = symbol_is_front b bs lexeme (joins_ends b bs one) (symbol_of b) refl found
+
     by_letter : (t : Bool) → is_letter b ≡ t → cond t (word_lexeme (take_while is_name_byte (b ∷ bs)) (keyword_of (take_while is_name_byte (b ∷ bs)))) (cond (joins b bs) None (option_map Fixed (symbol_of b))) ≡ Some lexeme → IsFront lexeme (b ∷ bs)
     by_letter false letter found = by_joins (joins b bs) refl found
     by_letter true letter found =

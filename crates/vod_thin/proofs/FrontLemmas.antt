@@ -1,16 +1,10 @@
 -- The token that a reader finds at the front is the one token that the bytes begin with.
-use Rattle.std.proofs.Common.{◌≡◌, ℕ, Bool, true, false, not, ◌&&◌, ◌||◌, cond, List, [], ◌∷◌, ◌++◌, length, ◌≤◌, nat_le, nat_eq, take, drop, take_while, Option, None, Some, option_map, refl, ap, sym, subst, ◌∙◌, rules, arith, ◌⊎◌, inl, inr, codes, IsTrue}
+use Rattle.std.proofs.Common.{◌≡◌, ℕ, Bool, true, false, not, ◌&&◌, ◌||◌, cond, List, [], ◌∷◌, ◌++◌, nat_eq, take_while, refl, ap, sym, ◌∙◌}
 use Rattle.std.specs.List.{list_all}
-use Rattle.std.specs.Str.{bytes_eq}
 use Rattle.std.proofs.lemmas.List.Sums.{take_while-cons}
-use Rattle.std.proofs.lemmas.Slice.Eq.{bytes_eq-Decides}
-use Rattle.std.proofs.lemmas.Bool.{eqb-true, eq-eqb, true≢false}
-use Rattle.vod_thin.specs.declared.token.Word.{Word}
-use Rattle.vod_thin.specs.declared.token.Word.TheVariants.{Module, Input, Output, Assign, Endmodule, Open, Close, Comma, Semicolon, Equals, And, Xor, Or, Not}
-use Rattle.vod_thin.specs.Words.{is_letter, is_name_byte, is_identifier, is_reserved, is_name, are_one_token, spelling}
-use Rattle.vod_thin.specs.Lexemes.{Lexeme, Named, Fixed, text_of, is_token, ends_before}
-use Rattle.vod_thin.specs.Front.{keyword_of, symbol_of, name_or_none, word_lexeme, joins, front}
-use Rattle.vod_thin.proofs.WordLemmas.{list_all-take_while}
+use Rattle.std.proofs.lemmas.Bool.{eqb-true, true≢false}
+use Rattle.vod_thin.specs.Words.{is_name_byte, are_one_token}
+use Rattle.vod_thin.specs.Lexemes.{ends_before}
 
 pub and_true_left : (a b : Bool) → (a && b) ≡ true → a ≡ true
 and_true_left true b h = refl
@@ -52,7 +46,7 @@ fronted p (b ∷ bs) = by_test (fronted p bs) (p b) refl
     }
 
 -- a byte of names is none of the bytes that symbols of two are made of
-other_byte : (b k : ℕ) → is_name_byte k ≡ false → is_name_byte b ≡ true → nat_eq b k ≡ false
+pub other_byte : (b k : ℕ) → is_name_byte k ≡ false → is_name_byte b ≡ true → nat_eq b k ≡ false
 other_byte b k other name = by_test (nat_eq b k) refl
   where
     by_test : (v : Bool) → nat_eq b k ≡ v → nat_eq b k ≡ false

@@ -1,5 +1,5 @@
 -- What a refusal of a step says.
-use Rattle.std.proofs.Common.{◌≡◌, Option, None, Some, Result, Ok, Err, refl, sym, ◌∙◌}
+use Rattle.std.proofs.Common.{◌≡◌, Option, None, Err}
 use Rattle.vod_thin.specs.declared.fault.ThinFault.{ThinFault}
 use Rattle.vod_thin.specs.declared.fault.ThinFault.TheVariants.{Refused, Memory}
 use Rattle.vod_thin.specs.Reader.{Draft}

@@ -5,3 +5,10 @@ pub mod FallsLaws
 pub mod TokenLemmas
 pub mod SentenceLaws
 pub mod GivesLaws
+pub mod PortLemmas
+pub mod NameLemmas
+pub mod RefusalLaws
+pub mod DriverLaws
+pub mod PlaceLaws
+pub mod DesignLaws
+pub mod ReadLaws

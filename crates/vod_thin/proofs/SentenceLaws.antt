@@ -1,5 +1,5 @@
 -- Reading token by token reads exactly the sentences.
-use Rattle.std.proofs.Common.{◌≡◌, ℕ, Bool, true, false, cond, List, [], ◌∷◌, ◌++◌, Option, None, Some, option_and_then, option_map, refl, ap, sym, subst, ◌∙◌, append_assoc, append-nil, rules, arith, nat_eq}
+use Rattle.std.proofs.Common.{◌≡◌, ℕ, Bool, true, false, cond, List, [], ◌∷◌, ◌++◌, Option, None, Some, option_and_then, refl, ap, sym, subst, ◌∙◌, append_assoc, append-nil, nat_eq}
 use Rattle.std.specs.List.{flat_map}
 use Rattle.std.proofs.lemmas.Bool.{eqb-true}
 use Rattle.std.proofs.lemmas.Grind.{flat_map-append}
@@ -12,7 +12,7 @@ use Rattle.vod_thin.specs.declared.syntax.Operator.TheVariants as operator
 use Rattle.vod_thin.specs.declared.syntax.Place.{Place}
 use Rattle.vod_thin.specs.declared.syntax.Place.TheVariants as place
 use Rattle.vod_thin.specs.Lexemes.{Lexeme, Named, Fixed}
-use Rattle.vod_thin.specs.Syntax.{Term, Value, One, Two, Assign, Port, Module, term_tokens, operator_word, value_tokens, assign_tokens, direction_word, port_tokens, sentence}
+use Rattle.vod_thin.specs.Syntax.{Value, One, Two, Assign, Port, Module, term_tokens, operator_word, value_tokens, assign_tokens, direction_word, port_tokens, sentence}
 use Rattle.vod_thin.specs.Reader.{Draft, number_of, same_word, expect, direction_for, operator_for, port_begins, behind_port, at_item, ended, behind_left, on_fixed, on_name, next, run, is_done, drafted, start}
 
 -- what a draft keeps when more of an item is read
@@ -61,9 +61,13 @@ value_read s target (One term) rest =
     record {
       draft = t;
       runs =
-        ap (run (record s { at = place.Left; target = target })) (append_assoc (term_tokens term) (Fixed word.Semicolon ∷ []) rest)
-        ∙ left_read (record s { target = target }) term.name term.inverted (Fixed word.Semicolon ∷ rest);
-      place = refl; named = refl; first_port = refl; more_ports = refl; items = refl;
+          ap (run (record s { at = place.Left; target = target })) (append_assoc (term_tokens term) (Fixed word.Semicolon ∷ []) rest)
+          ∙ left_read (record s { target = target }) term.name term.inverted (Fixed word.Semicolon ∷ rest);
+      place = refl;
+      named = refl;
+      first_port = refl;
+      more_ports = refl;
+      items = refl;
     }
 value_read s target (Two left op right) rest =
     let t = record s { at = place.Item; target = target; left = left; operator = op; right = right; assigns = s.assigns ++ record { target = target; value = Two left op right } ∷ [] } in
@@ -72,11 +76,15 @@ value_read s target (Two left op right) rest =
     record {
       draft = t;
       runs =
-        ap (run (record s { at = place.Left; target = target })) regrouped
-        ∙ left_read (record s { target = target }) left.name left.inverted (Fixed (operator_word op) ∷ (term_tokens right ++ behind))
-        ∙ operator_read (record s { target = target; left = left }) op (term_tokens right ++ behind)
-        ∙ right_read (record s { target = target; left = left; operator = op }) right.name right.inverted behind;
-      place = refl; named = refl; first_port = refl; more_ports = refl; items = refl;
+          ap (run (record s { at = place.Left; target = target })) regrouped
+          ∙ left_read (record s { target = target }) left.name left.inverted (Fixed (operator_word op) ∷ (term_tokens right ++ behind))
+          ∙ operator_read (record s { target = target; left = left }) op (term_tokens right ++ behind)
+          ∙ right_read (record s { target = target; left = left; operator = op }) right.name right.inverted behind;
+      place = refl;
+      named = refl;
+      first_port = refl;
+      more_ports = refl;
+      items = refl;
     }
 
 placed : (s : Draft) (p : Place) → s.at ≡ p → at_place s p ≡ s
@@ -88,7 +96,11 @@ item_read s e assign rest =
     record {
       draft = read.draft;
       runs = ap (λ t. run t (assign_tokens assign ++ rest)) (sym (placed s place.Item e)) ∙ read.runs;
-      place = read.place; named = read.named; first_port = read.first_port; more_ports = read.more_ports; items = read.items;
+      place = read.place;
+      named = read.named;
+      first_port = read.first_port;
+      more_ports = read.more_ports;
+      items = read.items;
     }
 
 -- items are read whole
@@ -120,9 +132,13 @@ port_read s e port rest =
     record {
       draft = record s { at = place.PortEnd; direction = port.direction; more = s.more ++ port ∷ [] };
       runs =
-        ap (λ t. run t (more_tokens port ++ rest)) (sym (placed s place.PortEnd e))
-        ∙ ap (option_and_then (λ t. run t (Named port.name ∷ rest))) (direction_read place.PortName (at_place s place.Port) port.direction);
-      place = refl; named = refl; first_port = refl; more_ports = refl; items = refl;
+          ap (λ t. run t (more_tokens port ++ rest)) (sym (placed s place.PortEnd e))
+          ∙ ap (option_and_then (λ t. run t (Named port.name ∷ rest))) (direction_read place.PortName (at_place s place.Port) port.direction);
+      place = refl;
+      named = refl;
+      first_port = refl;
+      more_ports = refl;
+      items = refl;
     }
 
 ports_read : (s : Draft) → s.at ≡ place.PortEnd → (ports : List Port) (rest : List Lexeme) → Comes s (flat_map more_tokens ports) place.PortEnd s.name s.first (s.more ++ ports) s.assigns rest
@@ -351,7 +367,7 @@ port_begun s t w (Some d) e h f =
     let u = record s { at = place.PortName; direction = d } in
     let same : u ≡ t = some_same h in
     let adds : ports_so_far s ++ Fixed word.Comma ∷ Fixed (direction_word d) ∷ [] ≡ ports_so_far s ++ Fixed word.Comma ∷ [] ++ Fixed w ∷ [] =
-        ap (λ v. ports_so_far s ++ Fixed word.Comma ∷ Fixed v ∷ []) (direction_found w d e) ∙ sym (append_assoc (ports_so_far s) (Fixed word.Comma ∷ []) (Fixed w ∷ [])) in
+    ap (λ v. ports_so_far s ++ Fixed word.Comma ∷ Fixed v ∷ []) (direction_found w d e) ∙ sym (append_assoc (ports_so_far s) (Fixed word.Comma ∷ []) (Fixed w ∷ [])) in
     subst (λ v. Moves (ports_so_far s ++ Fixed word.Comma ∷ []) (Fixed w) v) same (record { adds = adds; fresh = f })
 
 port_ends : (s t : Draft) (w : Word) → behind_port s w ≡ Some t → fresh_at place.PortEnd s → Moves (ports_so_far s) (Fixed w) t
@@ -383,7 +399,7 @@ one_more s value =
     let base = head_of s ++ (port_tokens s.first ++ flat_map more_tokens s.more) in
     let item : Assign = record { target = s.target; value = value } in
     let more : flat_map assign_tokens (s.assigns ++ item ∷ []) ≡ flat_map assign_tokens s.assigns ++ assign_tokens item =
-        flat_map-append assign_tokens s.assigns (item ∷ []) ∙ ap (λ v. flat_map assign_tokens s.assigns ++ v) (append-nil (assign_tokens item)) in
+    flat_map-append assign_tokens s.assigns (item ∷ []) ∙ ap (λ v. flat_map assign_tokens s.assigns ++ v) (append-nil (assign_tokens item)) in
     ap (λ v. base ++ Fixed word.Close ∷ Fixed word.Semicolon ∷ v) more ∙ simp append_assoc
 
 item_ended : (s t : Draft) (w : Word) (value : Value) (base : List Lexeme) → left_of s ++ value_tokens value ≡ base → ended s w value ≡ Some t → Moves base (Fixed w) t
@@ -410,7 +426,7 @@ fixed_moves place.PortEnd s t w h f = port_ends s t w h f
 fixed_moves place.Semicolon s t w h f =
     let none : flat_map assign_tokens s.assigns ≡ [] = ap (flat_map assign_tokens) f in
     let adds : ports_so_far s ++ Fixed word.Close ∷ Fixed word.Semicolon ∷ flat_map assign_tokens s.assigns ≡ ports_so_far s ++ Fixed word.Close ∷ [] ++ Fixed word.Semicolon ∷ [] =
-        ap (λ v. ports_so_far s ++ Fixed word.Close ∷ Fixed word.Semicolon ∷ v) none ∙ sym (append_assoc (ports_so_far s) (Fixed word.Close ∷ []) (Fixed word.Semicolon ∷ [])) in
+    ap (λ v. ports_so_far s ++ Fixed word.Close ∷ Fixed word.Semicolon ∷ v) none ∙ sym (append_assoc (ports_so_far s) (Fixed word.Close ∷ []) (Fixed word.Semicolon ∷ [])) in
     moved w word.Semicolon (record s { at = place.Item }) t (ports_so_far s ++ Fixed word.Close ∷ []) h (record { adds = adds; fresh = tt })
 fixed_moves place.Item s t w h f = item_begins s t w h
 fixed_moves place.Equals s t w h f =
@@ -439,15 +455,15 @@ name_moves place.FirstName s t n h f =
     let u : Draft = record s { at = place.PortEnd; first = record { direction = s.direction; name = n } } in
     let none : flat_map more_tokens s.more ≡ [] = ap (flat_map more_tokens) f.0 in
     let adds : head_of s ++ (Fixed (direction_word s.direction) ∷ Named n ∷ flat_map more_tokens s.more) ≡ head_of s ++ Fixed (direction_word s.direction) ∷ [] ++ Named n ∷ [] =
-        ap (λ v. head_of s ++ (Fixed (direction_word s.direction) ∷ Named n ∷ v)) none ∙ sym (append_assoc (head_of s) (Fixed (direction_word s.direction) ∷ []) (Named n ∷ [])) in
+    ap (λ v. head_of s ++ (Fixed (direction_word s.direction) ∷ Named n ∷ v)) none ∙ sym (append_assoc (head_of s) (Fixed (direction_word s.direction) ∷ []) (Named n ∷ [])) in
     named_to _ n u t h (record { adds = adds; fresh = f.1 })
 name_moves place.PortName s t n h f =
     let port : Port = record { direction = s.direction; name = n } in
     let u : Draft = record s { at = place.PortEnd; more = s.more ++ port ∷ [] } in
     let more : flat_map more_tokens (s.more ++ port ∷ []) ≡ flat_map more_tokens s.more ++ more_tokens port =
-        flat_map-append more_tokens s.more (port ∷ []) ∙ ap (λ v. flat_map more_tokens s.more ++ v) (append-nil (more_tokens port)) in
+    flat_map-append more_tokens s.more (port ∷ []) ∙ ap (λ v. flat_map more_tokens s.more ++ v) (append-nil (more_tokens port)) in
     let adds : head_of s ++ (port_tokens s.first ++ flat_map more_tokens (s.more ++ port ∷ [])) ≡ ports_so_far s ++ Fixed word.Comma ∷ Fixed (direction_word s.direction) ∷ [] ++ Named n ∷ [] =
-        ap (λ v. head_of s ++ (port_tokens s.first ++ v)) more ∙ simp append_assoc in
+    ap (λ v. head_of s ++ (port_tokens s.first ++ v)) more ∙ simp append_assoc in
     named_to _ n u t h (record { adds = adds; fresh = f })
 name_moves place.Target s t n h f =
     named_to _ n (record s { at = place.Equals; target = n }) t h

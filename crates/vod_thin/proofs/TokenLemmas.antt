@@ -1,11 +1,10 @@
 -- Facts on lengths for the loop over tokens.
-use Rattle.std.proofs.Common.{◌≡◌, ℕ, ◌+◌, ◌-◌, ◌<◌, ◌≤◌, Bool, true, false, List, [], ◌∷◌, ◌++◌, length, take_while, Option, None, Some, refl, ap, sym, ◌∙◌, rules, arith, length-append, codes, lit<, lit≤}
-use Rattle.vod_thin.specs.declared.token.Word.{Word}
+use Rattle.std.proofs.Common.{◌≡◌, ℕ, ◌≤◌, true, List, [], ◌∷◌, length, Some, ap, sym, arith, length-append, lit≤}
 use Rattle.vod_thin.specs.declared.token.Word.TheVariants.{Module, Input, Output, Assign, Endmodule, Open, Close, Comma, Semicolon, Equals, And, Xor, Or, Not}
-use Rattle.vod_thin.specs.Words.{is_identifier, is_name, spelling}
+use Rattle.vod_thin.specs.Words.{is_identifier}
 use Rattle.vod_thin.specs.Lexemes.{Lexeme, Named, Fixed, text_of, is_token}
 use Rattle.vod_thin.specs.Front.{front}
-use Rattle.vod_thin.proofs.FrontLaws.{IsFront, name_is_identifier, found_is_front}
+use Rattle.vod_thin.proofs.FrontLaws.{name_is_identifier, found_is_front}
 use Rattle.std.proofs.lemmas.Bool.{true≢false}
 
 token_has_bytes : (lexeme : Lexeme) → is_token lexeme ≡ true → 1 ≤ length (text_of lexeme)

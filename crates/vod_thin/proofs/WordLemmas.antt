@@ -1,5 +1,5 @@
 -- Laws on words and symbols.
-use Rattle.std.proofs.Common.{◌≡◌, ℕ, Bool, true, false, not, ◌≤◌, get_or, ◌&&◌, ◌||◌, cond, List, [], ◌∷◌, ◌++◌, length, nat_le, nat_eq, take, drop, take_while, refl, ap, sym, ◌∙◌, rules, arith}
+use Rattle.std.proofs.Common.{◌≡◌, ℕ, Bool, true, false, not, ◌≤◌, get_or, ◌&&◌, ◌||◌, cond, List, [], ◌∷◌, length, nat_le, nat_eq, take_while, refl, ap, ◌∙◌, arith}
 use Rattle.std.specs.List.{list_all}
 use Rattle.std.proofs.lemmas.List.Sums.{take_while-cons}
 use Rattle.vod_thin.specs.Words.{is_letter, is_name_byte, is_identifier, is_reserved, is_name}

@@ -1,9 +1,7 @@
 -- How the bytes of a source fall into tokens of the thin form, each the longest.
-use Rattle.std.specs.Prelude.{◌≡◌, ℕ, Bool, true, false, not, List, [], ◌∷◌, ◌++◌, IsTrue}
+use Rattle.std.specs.Prelude.{◌≡◌, ℕ, Bool, true, not, List, [], ◌∷◌, ◌++◌, IsTrue}
 use Rattle.std.specs.List.{list_all}
 use Rattle.vod_thin.specs.declared.token.Word.{Word}
-use Rattle.vod_thin.specs.declared.token.Token.{Token}
-use Rattle.vod_thin.specs.declared.token.Token.TheVariants as tokens
 use Rattle.vod_thin.specs.Words.{is_space, is_name, spelling, are_one_token}
 
 -- a token: a name, or a word or symbol that is spelled in one way

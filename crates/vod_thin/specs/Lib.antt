@@ -5,3 +5,4 @@ pub mod Thin
 pub mod Front
 pub mod Reader
 pub mod View
+pub mod Resolve

@@ -1,5 +1,5 @@
 -- A sentence read token by token: what may come next, and what it adds.
-use Rattle.std.specs.Prelude.{ℕ, ◌==◌, Bool, true, false, List, [], ◌∷◌, ◌++◌, Option, None, Some, option_and_then, option_map, if◌then◌else◌}
+use Rattle.std.specs.Prelude.{ℕ, ◌==◌, Bool, true, false, List, [], ◌∷◌, ◌++◌, Option, None, Some, option_and_then, if◌then◌else◌}
 use Rattle.vod_thin.specs.declared.token.Word.{Word}
 use Rattle.vod_thin.specs.declared.token.Word.TheVariants as word
 use Rattle.vod_thin.specs.declared.syntax.Direction.{Direction}

@@ -1,5 +1,5 @@
 -- The sentences of the thin form, by its alternatives.
-use Rattle.std.specs.Prelude.{ℕ, Bool, true, false, List, [], ◌∷◌, ◌++◌, Option, None, Some, if◌then◌else◌}
+use Rattle.std.specs.Prelude.{ℕ, Bool, List, [], ◌∷◌, ◌++◌, if◌then◌else◌}
 use Rattle.std.specs.List.{flat_map}
 use Rattle.vod_thin.specs.declared.token.Word.{Word}
 use Rattle.vod_thin.specs.declared.token.Word.TheVariants as word

@@ -1,6 +1,6 @@
 -- Which sources are of the thin form, and the design of each.
-use Rattle.std.specs.Prelude.{◌≡◌, ◌≢◌, ℕ, suc, ◌≤◌, ◌<◌, ◌^◌, ◌&&◌, Bool, true, false, not, List, [], ◌∷◌, ◌++◌, length, map, filter, count_by, All, AllPairs, IsTrue, if◌then◌else◌}
-use Rattle.std.specs.List.{list_any, list_all, enumerate_from}
+use Rattle.std.specs.Prelude.{◌≡◌, ◌≢◌, ℕ, ◌≤◌, ◌^◌, Bool, true, false, not, List, [], ◌∷◌, length, map, filter, count_by, All, AllPairs, IsTrue, if◌then◌else◌}
+use Rattle.std.specs.List.{list_any, list_all, enumerate_from, position_or_len}
 use Rattle.std.specs.Str.{bytes_eq}
 use Rattle.vod_design.specs.declared.thin.Signal.{Signal}
 use Rattle.vod_design.specs.declared.thin.Operand.{Operand}
@@ -39,7 +39,7 @@ port_names ports = map (λ port. port.name) ports
 
 -- whether a list of names has this one
 abbrev pub names : List (List ℕ) → List ℕ → Bool
-names list name = list_any (λ other. bytes_eq other name) list
+names list name = list_any (λ other. bytes_eq name other) list
 
 -- the terms of a right side
 abbrev pub terms : Value → List Term
@@ -64,8 +64,7 @@ pub record IsWellNamed (m : Module) : Type 0 where
 
 -- the place of the first port with this name, or the number of ports
 abbrev pub place_of : List Port → List ℕ → ℕ
-place_of [] name = 0
-place_of (port ∷ ports) name = if bytes_eq port.name name then 0 else suc (place_of ports name)
+place_of ports name = position_or_len (λ port. bytes_eq name port.name) ports
 
 abbrev pub operand_of : List Port → Term → Operand
 operand_of ports term = record { signal = place_of ports term.name; inverted = term.inverted }
@@ -82,12 +81,19 @@ expr_of ports (Two left op right) = joined op (operand_of ports left) (operand_o
 abbrev pub driver_of : List Port → Assign → Driver
 driver_of ports assign = record { target = place_of ports assign.target; value = expr_of ports assign.value }
 
+abbrev pub signal_of : Port → Signal
+signal_of port = record { name = port.name }
+
+-- the places of the inputs
+abbrev pub inputs_of : List Port → List ℕ
+inputs_of ports = map (λ e. e.0) (filter (λ e. is_input e.1) (enumerate_from 0 ports))
+
 -- the design of a module: signals are its ports in order, drivers its assignments in order
 abbrev pub design_of : Module → Netlist
 design_of m = record {
   name = m.name;
-  signals = map (λ port. record { name = port.name }) (ports_of m);
-  inputs = map (λ e. e.0) (filter (λ e. is_input e.1) (enumerate_from 0 (ports_of m)));
+  signals = map signal_of (ports_of m);
+  inputs = inputs_of (ports_of m);
   drivers = map (driver_of (ports_of m)) m.assigns;
 }
 

@@ -1,5 +1,5 @@
 -- The trees of the code, without where they lie in memory.
-use Rattle.std.specs.Prelude.{◌≡◌, ℕ, List, map, Option, None, Some, Result, Ok, Err}
+use Rattle.std.specs.Prelude.{◌≡◌, map, Option, None, Some, Result, Ok, Err}
 use Rattle.vod_thin.specs.declared.fault.ThinFault.{ThinFault}
 use Rattle.vod_thin.specs.declared.fault.ThinFault.TheVariants.{Refused, Memory}
 use Rattle.vod_thin.specs.declared.syntax.Term as code_term

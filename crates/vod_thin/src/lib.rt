@@ -2,9 +2,14 @@
 #![tactic(auto)]
 
 mod fault;
+mod names;
+mod ports;
+mod read;
+mod resolve;
 mod syntax;
 mod token;
 
 pub use fault::ThinFault;
+pub use read::{one_design, read_thin};
 pub use syntax::{Direction, Operator};
 pub use token::{RESERVED, Word};

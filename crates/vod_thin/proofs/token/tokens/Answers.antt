@@ -1,7 +1,6 @@
-use Rattle.std.proofs.Common.{◌≡◌, ℕ, ◌≤◌, ◌++◌, [], ◌∷◌, List, map, length, ap, sym, subst, ◌∙◌, arith}
+use Rattle.std.proofs.Common.{◌≡◌, ◌≤◌, ◌++◌, [], ◌∷◌, map, length, ap, sym, subst, ◌∙◌, arith}
 use Rattle.std.proofs.lemmas.Bool.Decides.{nat_tests}
 use Rattle.std.proofs.lemmas.List.{map_push}
-use Rattle.vod_thin.specs.Lexemes.{Lexeme, FallsInto}
 use Rattle.vod_thin.specs.Front.{lexeme_of}
 use Rattle.vod_thin.proofs.FallsLaws.{Reads, reads_start, reads_more, reads_end, reads_all, reads_none}
 use Rattle.vod_thin.proofs.token.tokens.Goals as goal
