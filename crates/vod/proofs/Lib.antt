@@ -3,3 +3,4 @@ pub mod WindowLaws
 pub mod RequestLaws
 pub mod CommandLaws
 pub mod InsideLaws
+pub mod AnswerLaws

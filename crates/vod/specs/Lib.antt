@@ -5,3 +5,4 @@ pub mod Progress
 pub mod Windows
 pub mod Phases
 pub mod Ends
+pub mod Answer

@@ -2,6 +2,7 @@
 #![tactic(auto)]
 
 mod command;
+mod dump;
 mod inside;
 mod phase;
 mod run;

@@ -8,10 +8,11 @@ ghost use Rattle.vod_queue.specs.Run.{AreSlots};
 ghost use Rattle.vod_vcd.specs.Stream.{window_text, rest_text};
 ghost use Rattle.vod.specs.Moments.{moments};
 ghost use Rattle.vod.specs.Request.{IsWritten, IsBegun};
-ghost use Rattle.vod.specs.Windows.{request_of};
+ghost use Rattle.vod.specs.Windows.{request_of, window_stop};
 ghost use Rattle.vod.specs.Progress.{IsReady, IsOver, Skips};
 
 use crate::run::{run_slot, started};
+use crate::status::Stop;
 use std::alloc::Global;
 use vod_design::thin::{Design, Vector};
 use vod_io::{Failed, Sink};
@@ -32,6 +33,18 @@ pub enum WindowFault {
     Write,
     /// There was no memory.
     Memory,
+}
+
+impl WindowFault {
+    /// The stop of a command that writes a window.
+    pub fn stop(self) -> Stop
+        ensures { result ≡ window_stop self }
+    {
+        match self {
+            WindowFault::Write => Stop::Write,
+            WindowFault::Memory => Stop::Memory,
+        }
+    }
 }
 
 impl From<Failed> for WindowFault {
