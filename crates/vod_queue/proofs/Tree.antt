@@ -5,6 +5,7 @@ use Rattle.std.proofs.lemmas.Bool.{cases_eq, cases_lt, cases_Bool, ne_eqb}
 use Rattle.std.proofs.lemmas.List.{take_all, get_or_past, ext_get_or, length-replicate, get_or-replicate}
 use Rattle.std.proofs.lemmas.List.Sums.{count_by_more_yes, count_by_more_no}
 use Rattle.vod_queue.specs.State.{flag_at}
+use Rattle.vod_queue.proofs.Woken.{flag_within}
 use Rattle.vod_queue.specs.Flags.{digit_of, set_count, AreSums, AreSumsBut, IsTree}
 
 -- the counts of so many nodes from one on
@@ -126,9 +127,6 @@ digit_set : (b : Bool) → 0 < digit_of b → b ≡ true
 digit_set true h = refl
 digit_set false h = absurd (omega arith)
 
-within_by : (flags : List Bool) (k : ℕ) → flag_at flags k ≡ true → k < length flags
-within_by flags k h = ⊎_elim (λ lt. lt) (λ ge. let past = get_or_past flags k false ge in absurd (cc)) (cases_lt k (length flags))
-
 -- at the leaves the flag is found
 pub found : (flags : List Bool) (counts : List ℕ) (leaves height place left nth : ℕ) → IsTree flags counts leaves height → place < leaves → left < slice_index counts (leaves + place) → before counts leaves place + left ≡ nth →
     (flag_at flags place ≡ true) × (set_count (take place flags) ≡ nth) × (place < length flags)
@@ -137,7 +135,7 @@ found flags counts leaves height place left nth tree lt some is =
     let b = before-leaves flags counts leaves height place tree (omega arith) in
     let yes = digit_set (flag_at flags place) (omega arith) in
     let one : digit_of (flag_at flags place) ≡ 1 = ap (λ (b : Bool). digit_of b) yes in
-    (yes, (omega arith), within_by flags place yes)
+    (yes, (omega arith), flag_within flags place yes)
 
 if_at : (n node m : ℕ) → n ≡ node → ◌≡◌ {A = ℕ} (if n == node then m else 0) m
 if_at n node m same = let e = eq-eqb n node same in rw e refl
