@@ -37,9 +37,9 @@ no_vectors w Read command design refused read same = (command, inr (design, read
 no_vectors w Refused command design refused read same = (command, design, refused refl)
 no_vectors w Memory command design refused read same = (command, inl same)
 
-pub no_window : (w : World) (f : WindowFault) → HasCommand w → (f ≡ fault.Write → IsRisen w.out_faults) → AsksFor w (λ r. IsBegun r w.before w.after) → Answers w (Err (window_stop f))
-no_window w fault.Write command write begun = (write refl, begun)
-no_window w fault.Memory command write begun = (command, inr begun)
+pub no_window : (w : World) (f : WindowFault) → HasCommand w → HasDesign w → (f ≡ fault.Write → IsRisen w.out_faults) → AsksFor w (λ r. IsBegun r w.before w.after) → Answers w (Err (window_stop f))
+no_window w fault.Write command design write begun = (command, design, write refl, begun)
+no_window w fault.Memory command design write begun = (command, inr begun)
 
 pub design_told : (w : World) (source : List ℕ) (d : Netlist) → Told w.source source → IsThin source d → HasDesign w
 design_told w source d told thin = λ bytes e. (d, subst (λ b. IsThin b d) (sym (told bytes e)) thin)

@@ -4,3 +4,4 @@ pub mod RequestLaws
 pub mod CommandLaws
 pub mod InsideLaws
 pub mod AnswerLaws
+pub mod CausedLaws

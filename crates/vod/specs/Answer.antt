@@ -62,13 +62,13 @@ AsksNothing w = Tells w.source (λ source. Tells w.script (λ script. (r : Reque
 
 -- each answer with its cause
 abbrev pub Answers : World → Result (Unit {0}) Stop → Type 0
-Answers w (Ok done) = AsksFor w (λ r. IsWritten r w.before w.after)
+Answers w (Ok done) = HasCommand w × HasDesign w × AsksFor w (λ r. IsWritten r w.before w.after)
 Answers w (Err stop.Usage) = HasNoCommand w
 Answers w (Err (stop.NotYet part.Design)) = HasCommand w × HasNoDesign w
 Answers w (Err (stop.NotYet part.Script)) = HasCommand w × HasDesign w × HasNoVectors w
-Answers w (Err (stop.NotYet part.Window)) = HasCommand w × HasVectors w × AsksNothing w
+Answers w (Err (stop.NotYet part.Window)) = HasCommand w × HasDesign w × HasVectors w × AsksNothing w
 Answers w (Err stop.Read) = HasCommand w × (IsRisen w.design_faults ⊎ (HasDesign w × IsRisen w.input_faults))
-Answers w (Err stop.Write) = IsRisen w.out_faults × AsksFor w (λ r. IsBegun r w.before w.after)
+Answers w (Err stop.Write) = HasCommand w × HasDesign w × IsRisen w.out_faults × AsksFor w (λ r. IsBegun r w.before w.after)
 Answers w (Err stop.Memory) = HasCommand w × ((w.after ≡ w.before) ⊎ AsksFor w (λ r. IsBegun r w.before w.after))
 
 -- whether nothing was written with a stop

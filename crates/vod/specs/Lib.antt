@@ -6,3 +6,4 @@ pub mod Windows
 pub mod Phases
 pub mod Ends
 pub mod Answer
+pub mod Caused

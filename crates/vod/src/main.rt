@@ -7,6 +7,7 @@ mod inside;
 mod phase;
 mod run;
 mod status;
+mod top;
 mod window;
 
 fn main() {}

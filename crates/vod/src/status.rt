@@ -89,7 +89,7 @@ fn line_of(stop: Stop) -> &'static [u8]
 /// Writes the line of a stop, and answers its status, or that the sink failed.
 pub fn report<E: Sink>(stop: Stop, err: &mut E) -> Status
     ensures reports { Reports stop result (E.taken err.old) (E.taken err.new) }
-    ensures caused { result ≡ status_of stop ⊎ Rose (E.faults err.old) (E.faults err.new) }
+    ensures caused { (result ≡ status_of stop) ⊎ ((result ≡ Status.WriteFault) × Rose (E.faults err.old) (E.faults err.new)) }
     ensures counted { E.faults err.old ≤ E.faults err.new }
 {
     match put_all(err, line_of(stop)) {

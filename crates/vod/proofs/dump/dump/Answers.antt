@@ -74,7 +74,7 @@ returns-then-not-is_inside-clause-answers g c =
     let reads = c.in-Ok-vectors_of.ensures in
     let at = subst (λ v. IsTrue c.is_inside.result ↔ IsInside d v window.from window.to) c.as_slice.ensures.value (c.is_inside.ensures d (subst (IsLawful d) (sym c.as_slice.ensures.value) reads.lawful)) in
     let outside : IsInside d vs window.from window.to → ⊥ = λ inside. false≢true (sym c.if-not-is_inside.true ∙ at.1 inside) in
-    (command, vectors_told w source d vs read.told read.thin reads.vectors,
+    (command, design_told w source d read.told read.thin, vectors_told w source d vs read.told read.thin reads.vectors,
       window_outside c.one_design.ensures c.one_reading.ensures w source d vs window read.plain read.told read.thin reads.vectors c.in-Some.ensures (one_command w.words) outside)
 
 pub returns-clause-answers : goal.returns-clause-answers
@@ -102,5 +102,5 @@ returns-clause-answers g c =
       subst (λ v. IsBegun (request_of source d v window) w.before w.after) c.as_slice-2.ensures.value
         (subst (λ t. IsBegun (request_of t d c.as_slice-2.result.now window) w.before w.after) c.as_slice-source.ensures.value c.in-Err-write_window.ensures.begun) in
     subst (λ s. Answers w (Err s)) (sym c.stop-in-Err-write_window.ensures)
-      (no_window w c.in-Err-write_window.fault command (λ e. c.in-Err-write_window.ensures.caused (ap Err e))
+      (no_window w c.in-Err-write_window.fault command (design_told w source d read.told read.thin) (λ e. c.in-Err-write_window.ensures.caused (ap Err e))
         (asked w (λ r. IsBegun r w.before w.after) source d vs window read.told read.thin reads.vectors c.in-Some.ensures inside begun))
