@@ -65,7 +65,8 @@ window_outside one reading w source d vs window plain told thin reads command sa
 -- what is asked for, where source and script are told
 pub asked : (w : World) (P : Request → Type 0) (source : List ℕ) (d : Netlist) (vs : List Vector) (window : Window) → Told w.source source → IsThin source d → Tells w.script (λ text. IsScript d text vs) →
     IsCommand w.words window.from window.to → IsInside d vs window.from window.to → P (request_of source d vs window) → AsksFor w P
-asked w P source d vs window told thin reads command inside holds = λ bytes e text f.
-    (request_of source d vs window,
-      record { command = command; read = sym (told bytes e); design = subst (λ b. IsThin b d) (sym (told bytes e)) thin; vectors = reads text f; window = inside },
-      holds)
+asked w P source d vs window told thin reads command inside holds = λ bytes e text f. (
+  request_of source d vs window,
+  record { command = command; read = sym (told bytes e); design = subst (λ b. IsThin b d) (sym (told bytes e)) thin; vectors = reads text f; window = inside },
+  holds,
+)

@@ -185,7 +185,7 @@ answered_ok one w err done h = record {
     usage = λ none calm. absurd (none h.0.0 h.0.1 h.0.2);
     design = λ calm command source told none. let at = h.1 source told in absurd (none at.0 at.1);
     script = λ calm command source script d told read thin none.
-      let at = h.2 source told script read in absurd (none at.0.vectors (subst (λ v. IsScript v script at.0.vectors) (one source at.0.design d at.1.design thin) at.1.vectors));
+        let at = h.2 source told script read in absurd (none at.0.vectors (subst (λ v. IsScript v script at.0.vectors) (one source at.0.design d at.1.design thin) at.1.vectors));
     window = λ calm command source script d vs told read thin reads none. let at = h.2 source told script read in absurd (none at.0 at.1);
     ok = λ calm source script q told read asks. inl refl;
   };

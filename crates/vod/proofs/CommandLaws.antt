@@ -27,5 +27,6 @@ one_command words a b c e x y =
   where
     third : {u v p q r s k l : List ℕ} → u ∷ p ∷ q ∷ k ∷ [] ≡ v ∷ r ∷ s ∷ l ∷ [] → q ≡ s
     third h = cc
+
     fourth : {u v p q r s k l : List ℕ} → u ∷ p ∷ q ∷ k ∷ [] ≡ v ∷ r ∷ s ∷ l ∷ [] → k ≡ l
     fourth h = cc

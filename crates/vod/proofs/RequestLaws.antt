@@ -49,8 +49,8 @@ pub streamed_window : SlotsSettle → StreamIsCut → (source : List ℕ) (d : N
     header_text source d ++ window_text first.val (moments vs ends) from to ≡ dump_text source d (cut (full_dump first.val (moments vs ends)) from to)
 streamed_window settle law source d vs from to first ends ready lawful slots =
     law source d first.val (moments vs ends) from to
-      (IsNonDecreasing-from_increasing _ (subst IsStrictlyIncreasing (sym (moments_times d first vs ends slots)) lawful.rising))
-      (subst (λ n. All (λ m. length m.values ≡ n) (moments vs ends)) (sym ready.shaped.val) (moments_shaped settle d first vs ends ready.accepted ready.shaped ready.settled slots))
+    (IsNonDecreasing-from_increasing _ (subst IsStrictlyIncreasing (sym (moments_times d first vs ends slots)) lawful.rising))
+    (subst (λ n. All (λ m. length m.values ≡ n) (moments vs ends)) (sym ready.shaped.val) (moments_shaped settle d first vs ends ready.accepted ready.shaped ready.settled slots))
 
 -- the run of any order has the first state and the slots of the one that was taken
 run_slots : (d : Netlist) (vs : List Vector) (first start : State) (states : List State) → ((t : State) → Completes d (start_of d) t → t ≡ first) → IsRun d vs start states → (start ≡ first) × AreSlots d first vs states
@@ -71,7 +71,7 @@ every_window result settle law r first before after ready lawful only writes sta
     let at = run_slots r.design r.vectors first start states only run in
     let text = streamed_window settle law r.source r.design r.vectors r.from r.to first states ready lawful at.1 in
     let whole : header_text r.source r.design ++ window_text first.val (moments r.vectors states) r.from r.to ≡ window_of r start states =
-      text ∙ ap (λ s. dump_text r.source r.design (cut (full_dump s.val (moments r.vectors states)) r.from r.to)) (sym at.0) in
+    text ∙ ap (λ s. dump_text r.source r.design (cut (full_dump s.val (moments r.vectors states)) r.from r.to)) (sym at.0) in
     subst (λ w. Written result before after w) whole (writes states at.1)
 
 pub window_written : {T E : Type 0} (result : Result T E) (x : T) → result ≡ Ok x → SlotsSettle → StreamIsCut → (r : Request) (first : State) (before after : Option (List ℕ)) →
@@ -79,10 +79,12 @@ pub window_written : {T E : Type 0} (result : Result T E) (x : T) → result ≡
     ((start : State) × (states : List State) × IsRun r.design r.vectors start states) →
     WritesRun result (header_text r.source r.design) r.design r.vectors r.from r.to first before after → IsWritten r before after
 window_written result x e settle law r first before after ready lawful only run writes = record {
-  first = run.0; ends = run.1; run = run.2;
+  first = run.0;
+  ends = run.1;
+  run = run.2;
   every = λ start states legal.
-    let written = every_window result settle law r first before after ready lawful only writes start states legal in
-    subst (λ v. Written v before after (window_of r start states)) e written;
+      let written = every_window result settle law r first before after ready lawful only writes start states legal in
+      subst (λ v. Written v before after (window_of r start states)) e written;
 }
 
 pub window_begun : {T E : Type 0} (result : Result T E) (x : E) → result ≡ Err x → SlotsSettle → StreamIsCut → (r : Request) (first : State) (before after : Option (List ℕ)) →
@@ -90,8 +92,8 @@ pub window_begun : {T E : Type 0} (result : Result T E) (x : E) → result ≡ E
     WritesRun result (header_text r.source r.design) r.design r.vectors r.from r.to first before after → IsBegun r before after
 window_begun result x e settle law r first before after ready lawful only writes = record {
   every = λ start states legal.
-    let written = every_window result settle law r first before after ready lawful only writes start states legal in
-    subst (λ v. Written v before after (window_of r start states)) e written;
+      let written = every_window result settle law r first before after ready lawful only writes start states legal in
+      subst (λ v. Written v before after (window_of r start states)) e written;
 }
 
 -- nothing was written

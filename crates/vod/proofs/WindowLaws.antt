@@ -42,15 +42,15 @@ passes_more_cons : (d : Netlist) (s t u : State) (vectors : List Vector) (from :
     Passes d s vectors from t (v ∷ rest) → v.time ≤ from → ((e : State) → IsSlot d t v.moves e → e ≡ u) → Passes d s vectors from u rest
 passes_more_cons d s t u vectors from v rest passes early only = record {
   passes = λ ends h.
-    let at = passes.passes ends h in
-    let split = splits d t v rest at.0 at.1 in
-    let same : split.end ≡ u = only split.end split.slot in
-    let test : nat_le v.time from ≡ true = le-leb v.time from early in
-    let text : (to : ℕ) → window_text t.val (moments (v ∷ rest) at.0) from to ≡ window_text u.val (moments rest split.more) from to =
+      let at = passes.passes ends h in
+      let split = splits d t v rest at.0 at.1 in
+      let same : split.end ≡ u = only split.end split.slot in
+      let test : nat_le v.time from ≡ true = le-leb v.time from early in
+      let text : (to : ℕ) → window_text t.val (moments (v ∷ rest) at.0) from to ≡ window_text u.val (moments rest split.more) from to =
       λ to. ap (λ w. window_text t.val (moments (v ∷ rest) w) from to) split.whole
-        ∙ ap (λ b. cond b (window_text split.end.val (moments rest split.more) from to) (opening_text from t.val ++ rest_text t.val from (moments (v ∷ rest) (split.end ∷ split.more)) to)) test
-        ∙ ap (λ e. window_text e.val (moments rest split.more) from to) same in
-    (split.more, subst (λ e. AreSlots d e rest split.more) same split.slots, λ to. at.2 to ∙ text to)
+      ∙ ap (λ b. cond b (window_text split.end.val (moments rest split.more) from to) (opening_text from t.val ++ rest_text t.val from (moments (v ∷ rest) (split.end ∷ split.more)) to)) test
+      ∙ ap (λ e. window_text e.val (moments rest split.more) from to) same in
+      (split.more, subst (λ e. AreSlots d e rest split.more) same split.slots, λ to. at.2 to ∙ text to);
 }
 
 -- the front of what is left is a slot not past the time
@@ -71,9 +71,9 @@ passes_over d s t vectors from (v ∷ behind) passes over = record { skips = ski
         let split = splits d t v behind at.0 at.1 in
         let test : nat_le v.time from ≡ false = lt-leb-false v.time from (over v behind refl) in
         let opens : (to : ℕ) → window_text t.val (moments (v ∷ behind) at.0) from to ≡ opening_text from t.val ++ rest_text t.val from (moments (v ∷ behind) at.0) to =
-          λ to. ap (λ w. window_text t.val (moments (v ∷ behind) w) from to) split.whole
-            ∙ ap (λ b. cond b (window_text split.end.val (moments behind split.more) from to) (opening_text from t.val ++ rest_text t.val from (moments (v ∷ behind) (split.end ∷ split.more)) to)) test
-            ∙ ap (λ w. opening_text from t.val ++ rest_text t.val from (moments (v ∷ behind) w) to) (sym split.whole) in
+        λ to. ap (λ w. window_text t.val (moments (v ∷ behind) w) from to) split.whole
+        ∙ ap (λ b. cond b (window_text split.end.val (moments behind split.more) from to) (opening_text from t.val ++ rest_text t.val from (moments (v ∷ behind) (split.end ∷ split.more)) to)) test
+        ∙ ap (λ w. opening_text from t.val ++ rest_text t.val from (moments (v ∷ behind) w) to) (sym split.whole) in
         (at.0, at.1, λ to. at.2 to ∙ opens to)
 
 -- what holds of each of some vectors holds of each but the first
@@ -93,9 +93,9 @@ slot_left d t u last to v behind ends h early only =
     let same : split.end ≡ u = only split.end split.slot in
     let test : nat_le v.time to ≡ true = le-leb v.time to early in
     let text : rest_text t.val last (moments (v ∷ behind) ends) to ≡ slot_text t.val v.time u.val ++ rest_text u.val (printed_after t.val last v.time u.val) (moments behind split.more) to =
-      ap (λ w. rest_text t.val last (moments (v ∷ behind) w) to) split.whole
-      ∙ ap (λ b. cond b (slot_text t.val v.time split.end.val ++ rest_text split.end.val (printed_after t.val last v.time split.end.val) (moments behind split.more) to) (closing_text last to)) test
-      ∙ ap (λ e. slot_text t.val v.time e.val ++ rest_text e.val (printed_after t.val last v.time e.val) (moments behind split.more) to) same in
+    ap (λ w. rest_text t.val last (moments (v ∷ behind) w) to) split.whole
+    ∙ ap (λ b. cond b (slot_text t.val v.time split.end.val ++ rest_text split.end.val (printed_after t.val last v.time split.end.val) (moments behind split.more) to) (closing_text last to)) test
+    ∙ ap (λ e. slot_text t.val v.time e.val ++ rest_text e.val (printed_after t.val last v.time e.val) (moments behind split.more) to) same in
     (split.more, subst (λ e. AreSlots d e behind split.more) same split.slots, text)
 
 -- a slot not past the time, whose text was taken
@@ -108,10 +108,13 @@ follows_more d s t u printed to last vectors before mid now v rest behind follow
     more ends h =
         let at = (subst (λ r. Follows d s printed vectors to before t last r mid) whole follows).follows ends h in
         let left = slot_left d t u last to v behind at.0 at.2 early only in
-        let piece = slot_text t.val v.time u.val in
-        (left.0, at.1 ++ piece, left.1,
+        let piece = slot_text t.val v.time u.val in (
+          left.0,
+          at.1 ++ piece,
+          left.1,
           taken ∙ ap (λ w. appended w piece) at.3 ∙ appended-appended before at.1 piece,
-          at.4 ∙ ap (λ w. at.1 ++ w) left.2 ∙ sym (append_assoc at.1 piece (rest_text u.val (printed_after t.val last v.time u.val) (moments behind left.0) to)))
+          at.4 ∙ ap (λ w. at.1 ++ w) left.2 ∙ sym (append_assoc at.1 piece (rest_text u.val (printed_after t.val last v.time u.val) (moments behind left.0) to)),
+        )
 
 -- what is left where no vector is left up to the time is the close
 over_text : (d : Netlist) (t : State) (last to : ℕ) (rest : List Vector) (more : List State) → AreSlots d t rest more → IsOver rest to → rest_text t.val last (moments rest more) to ≡ closing_text last to
@@ -141,8 +144,8 @@ follows_stops result d s t u printed to last vectors before mid now v rest behin
     let behind_text = rest_text u.val (printed_after t.val last v.time u.val) (moments behind left.0) to in
     let text = at.4 ∙ ap (λ w. at.1 ++ w) left.2 in
     subst (λ w. Written result before now w) (sym text)
-      (Written-stopped before now (at.1 ++ (piece ++ behind_text)) result failed
-        (stopped_in_second before mid now at.1 (piece ++ behind_text) at.3 (stopped_in_first mid now piece behind_text part)))
+    (Written-stopped before now (at.1 ++ (piece ++ behind_text)) result failed
+    (stopped_in_second before mid now at.1 (piece ++ behind_text) at.3 (stopped_in_first mid now piece behind_text part)))
 
 pub all_first : (P : Vector → Type 0) (xs rest : List Vector) (v : Vector) → xs ≡ v ∷ rest → All P xs → P v
 all_first P xs rest v whole all = let at = subst (λ ys. All P ys) whole all in at 0 v (omega arith)

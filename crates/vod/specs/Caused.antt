@@ -36,13 +36,13 @@ pub record IsCalm (w : World) (err : Count) : Type 0 where
 pub record IsComplete (w : World) (err : Count) (answer : Status) : Type 0 where
   pub usage : HasNoCommand w → (IsRisen err → ⊥) → answer ≡ status.Usage
   pub design : IsCalm w err → HasCommand w → (source : List ℕ) → w.source ≡ Some source → ((d : Netlist) → IsThin source d → ⊥) →
-    (answer ≡ status.NotYet part.Design) ⊎ (answer ≡ status.OutOfMemory)
+      (answer ≡ status.NotYet part.Design) ⊎ (answer ≡ status.OutOfMemory)
   pub script : IsCalm w err → HasCommand w → (source script : List ℕ) (d : Netlist) → w.source ≡ Some source → w.script ≡ Some script → IsThin source d → ((vs : List Vector) → IsScript d script vs → ⊥) →
-    (answer ≡ status.NotYet part.Script) ⊎ (answer ≡ status.OutOfMemory)
+      (answer ≡ status.NotYet part.Script) ⊎ (answer ≡ status.OutOfMemory)
   pub window : IsCalm w err → HasCommand w → (source script : List ℕ) (d : Netlist) (vs : List Vector) → w.source ≡ Some source → w.script ≡ Some script → IsThin source d → IsScript d script vs → ((r : Request) → Asks w.words source script r → ⊥) →
-    (answer ≡ status.NotYet part.Window) ⊎ (answer ≡ status.OutOfMemory)
+      (answer ≡ status.NotYet part.Window) ⊎ (answer ≡ status.OutOfMemory)
   pub ok : IsCalm w err → (source script : List ℕ) (r : Request) → w.source ≡ Some source → w.script ≡ Some script → Asks w.words source script r →
-    (answer ≡ status.Ok) ⊎ (answer ≡ status.OutOfMemory)
+      (answer ≡ status.Ok) ⊎ (answer ≡ status.OutOfMemory)
 
 -- with a fault of a sink or without memory, what the sink took is a prefix of the window, or nothing
 abbrev pub IsPrefix : World → Type 0

@@ -57,7 +57,14 @@ pub fn dump<D: Source, S: Source, K: Sink>(
         return Err(Stop::NotYet(Part::Window));
     }
     let source = reading.source.as_slice();
-    match write_window(alloc, source, &reading.design, vectors.as_slice(), window, out) {
+    match write_window(
+        alloc,
+        source,
+        &reading.design,
+        vectors.as_slice(),
+        window,
+        out,
+    ) {
         Ok(()) => Ok(()),
         Err(fault) => Err(fault.stop()),
     }

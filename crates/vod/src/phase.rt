@@ -10,9 +10,9 @@ ghost use Rattle.vod_design.specs.Names.{HasPlainNames};
 ghost use Rattle.vod_design.specs.Vectors.{IsLawful};
 ghost use Rattle.vod_thin_script.specs.Script.{IsScript};
 
+use crate::status::{Part, Stop};
 use std::alloc::Global;
 use vod_design::thin::{Design, Vector};
-use crate::status::{Part, Stop};
 use vod_io::{FillFault, Source, fill};
 use vod_thin::{ThinFault, read_thin};
 use vod_thin_script::{ScriptFault, read_script};
@@ -106,7 +106,11 @@ fn bytes_of<S: Source>(alloc: Global, source: &mut S) -> Result<Vec<u8>, PhaseFa
 }
 
 /// The vectors of a script.
-pub fn vectors_of<S: Source>(alloc: Global, design: &Design, script: &mut S) -> Result<Vec<Vector>, PhaseFault>
+pub fn vectors_of<S: Source>(
+    alloc: Global,
+    design: &Design,
+    script: &mut S,
+) -> Result<Vec<Vector>, PhaseFault>
     requires { HasPlainNames design.now }
     ensures vectors { IfOk result (λ vectors. Tells (S.left script.old) (λ text. IsScript design.now text vectors.items)) }
     ensures lawful { IfOk result (λ vectors. IsLawful design.now vectors.items) }

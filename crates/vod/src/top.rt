@@ -21,17 +21,16 @@ pub fn vod<D: Source, S: Source, K: Sink, E: Sink>(
     out: &mut K,
     err: &mut E,
 ) -> Status
-    ensures answered {
-      let world : World = record {
-        words = map string_bytes words.now;
-        source = D.left design.old;
-        script = S.left input.old;
-        before = K.taken out.old;
-        after = K.taken out.new;
-        design_faults = record { before = D.faults design.old; after = D.faults design.new };
-        input_faults = record { before = S.faults input.old; after = S.faults input.new };
-        out_faults = record { before = K.faults out.old; after = K.faults out.new };
-      } in IsAnswered world (record { before = E.faults err.old; after = E.faults err.new }) result }
+    ensures answered { let world : World = record {
+      words = map string_bytes words.now;
+      source = D.left design.old;
+      script = S.left input.old;
+      before = K.taken out.old;
+      after = K.taken out.new;
+      design_faults = record { before = D.faults design.old; after = D.faults design.new };
+      input_faults = record { before = S.faults input.old; after = S.faults input.new };
+      out_faults = record { before = K.faults out.old; after = K.faults out.new };
+    } in IsAnswered world (record { before = E.faults err.old; after = E.faults err.new }) result }
 
     // What the streams took besides.
     ensures said { IsSaid result (E.taken err.old) (E.taken err.new) }

@@ -146,7 +146,7 @@ fn write_run<K: Sink>(
     requires signals { writer.old.signals ≡ length queue.old.design.signals }
     ensures written { (ends : List State) → AreSlots queue.old.design queue.old.state vectors.now ends →
         Written result (K.taken out.old) (K.taken out.new)
-          (writer.old.header ++ window_text queue.old.state.val (moments vectors.now ends) window.from window.to) }
+        (writer.old.header ++ window_text queue.old.state.val (moments vectors.now ends) window.from window.to) }
     ensures caused { HasCause (K.faults out.old) (K.faults out.new) result }
 {
     writer.header(out)?;

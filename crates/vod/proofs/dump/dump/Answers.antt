@@ -30,7 +30,7 @@ returns-in-Err-clause-answers g c =
     let command : HasCommand w = (c.in-Some.window.from, c.in-Some.window.to, c.in-Some.ensures) in
     let fault = c.in-Err.ensures in
     subst (λ s. Answers w (Err s)) (sym c.stop.ensures)
-      (no_design w c.in-Err.fault command (λ e. fault.refused (ap Err e)) (λ e. fault.caused (ap Err e)) refl)
+    (no_design w c.in-Err.fault command (λ e. fault.refused (ap Err e)) (λ e. fault.caused (ap Err e)) refl)
 
 pub returns-in-Err-vectors_of-clause-answers : goal.returns-in-Err-vectors_of-clause-answers
 returns-in-Err-vectors_of-clause-answers g c =
@@ -50,8 +50,8 @@ returns-in-Err-vectors_of-clause-answers g c =
     let d = c.in-Ok.reading.design in
     let fault = c.in-Err-vectors_of.ensures in
     subst (λ s. Answers w (Err s)) (sym c.stop-in-Err-vectors_of.ensures)
-      (no_vectors w c.in-Err-vectors_of.fault command (design_told w source d read.told read.thin)
-        (λ e. script_refused c.one_design.ensures w source d read.told read.thin (fault.refused (ap Err e))) (λ e. fault.caused (ap Err e)) refl)
+    (no_vectors w c.in-Err-vectors_of.fault command (design_told w source d read.told read.thin)
+    (λ e. script_refused c.one_design.ensures w source d read.told read.thin (fault.refused (ap Err e))) (λ e. fault.caused (ap Err e)) refl)
 
 pub returns-then-not-is_inside-clause-answers : goal.returns-then-not-is_inside-clause-answers
 returns-then-not-is_inside-clause-answers g c =
@@ -73,9 +73,12 @@ returns-then-not-is_inside-clause-answers g c =
     let vs = c.in-Ok-vectors_of.vectors.items in
     let reads = c.in-Ok-vectors_of.ensures in
     let at = subst (λ v. IsTrue c.is_inside.result ↔ IsInside d v window.from window.to) c.as_slice.ensures.value (c.is_inside.ensures d (subst (IsLawful d) (sym c.as_slice.ensures.value) reads.lawful)) in
-    let outside : IsInside d vs window.from window.to → ⊥ = λ inside. false≢true (sym c.if-not-is_inside.true ∙ at.1 inside) in
-    (command, design_told w source d read.told read.thin, vectors_told w source d vs read.told read.thin reads.vectors,
-      window_outside c.one_design.ensures c.one_reading.ensures w source d vs window read.plain read.told read.thin reads.vectors c.in-Some.ensures (one_command w.words) outside)
+    let outside : IsInside d vs window.from window.to → ⊥ = λ inside. false≢true (sym c.if-not-is_inside.true ∙ at.1 inside) in (
+      command,
+      design_told w source d read.told read.thin,
+      vectors_told w source d vs read.told read.thin reads.vectors,
+      window_outside c.one_design.ensures c.one_reading.ensures w source d vs window read.plain read.told read.thin reads.vectors c.in-Some.ensures (one_command w.words) outside,
+    )
 
 pub returns-clause-answers : goal.returns-clause-answers
 returns-clause-answers g c =
@@ -99,8 +102,8 @@ returns-clause-answers g c =
     let at = subst (λ v. IsTrue c.is_inside.result ↔ IsInside d v window.from window.to) c.as_slice.ensures.value (c.is_inside.ensures d (subst (IsLawful d) (sym c.as_slice.ensures.value) reads.lawful)) in
     let inside : IsInside d vs window.from window.to = at.0 c.if-not-is_inside.false in
     let begun : IsBegun (request_of source d vs window) w.before w.after =
-      subst (λ v. IsBegun (request_of source d v window) w.before w.after) c.as_slice-2.ensures.value
-        (subst (λ t. IsBegun (request_of t d c.as_slice-2.result.now window) w.before w.after) c.as_slice-source.ensures.value c.in-Err-write_window.ensures.begun) in
+    subst (λ v. IsBegun (request_of source d v window) w.before w.after) c.as_slice-2.ensures.value
+    (subst (λ t. IsBegun (request_of t d c.as_slice-2.result.now window) w.before w.after) c.as_slice-source.ensures.value c.in-Err-write_window.ensures.begun) in
     subst (λ s. Answers w (Err s)) (sym c.stop-in-Err-write_window.ensures)
-      (no_window w c.in-Err-write_window.fault command (design_told w source d read.told read.thin) (λ e. c.in-Err-write_window.ensures.caused (ap Err e))
-        (asked w (λ r. IsBegun r w.before w.after) source d vs window read.told read.thin reads.vectors c.in-Some.ensures inside begun))
+    (no_window w c.in-Err-write_window.fault command (design_told w source d read.told read.thin) (λ e. c.in-Err-write_window.ensures.caused (ap Err e))
+    (asked w (λ r. IsBegun r w.before w.after) source d vs window read.told read.thin reads.vectors c.in-Some.ensures inside begun))

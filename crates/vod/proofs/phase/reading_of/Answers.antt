@@ -16,6 +16,6 @@ pub returns-in_err-design-clause-refused : goal.returns-in_err-design-clause-ref
 returns-in_err-design-clause-refused g c =
     let p = err_from_is_err_and c.from_residual-in_err-design.result c.from_residual-in_err-design.ensures.1 in
     λ was bytes told d reads.
-      let fault : c.in_err-design.field-0.0 ≡ thins.Refused = refused_before c.in_err-design.field-0.0 p.0 c.from_residual-in_err-design.result p.1 p.2 was in
-      let text = c.in_ok-source.ensures.told bytes told ∙ sym c.as_slice.ensures.value in
-      c.in_err-design.ensures.refused (ap Err fault) d (subst (λ b. IsThin b d) text reads)
+    let fault : c.in_err-design.field-0.0 ≡ thins.Refused = refused_before c.in_err-design.field-0.0 p.0 c.from_residual-in_err-design.result p.1 p.2 was in
+    let text = c.in_ok-source.ensures.told bytes told ∙ sym c.as_slice.ensures.value in
+    c.in_err-design.ensures.refused (ap Err fault) d (subst (λ b. IsThin b d) text reads)

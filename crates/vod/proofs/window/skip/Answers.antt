@@ -12,7 +12,7 @@ loop-vector-preserved c =
     let whole = c.in-Some.ensures.1 in
     let d = c.args.queue.now.design in
     let only : (e : State) → IsSlot d c.loop-vector.queue.state c.in-Some.vector.now.moves e → e ≡ c.run_slot.new.queue.state =
-        subst (λ v. (e : State) → IsSlot v c.loop-vector.queue.state c.in-Some.vector.now.moves e → e ≡ c.run_slot.new.queue.state) kept.design c.run_slot.ensures.only in
+    subst (λ v. (e : State) → IsSlot v c.loop-vector.queue.state c.in-Some.vector.now.moves e → e ≡ c.run_slot.new.queue.state) kept.design c.run_slot.ensures.only in
     record {
       design = c.run_slot.ensures.design ∙ kept.design;
       ready = subst (λ v. IsReady v c.run_slot.new.queue.state) kept.design c.run_slot.ensures.ready;

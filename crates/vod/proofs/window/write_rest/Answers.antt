@@ -23,13 +23,13 @@ returns-in_err-slot-clause-written g c =
     let mid = g.K.Sink.taken c.loop-vector.out in
     let now = g.K.Sink.taken c.slot.new.out in
     let only : (e : State) → IsSlot c.args.queue.now.design t c.in-Some.vector.now.moves e → e ≡ u =
-        subst (λ d. (e : State) → IsSlot d t c.in-Some.vector.now.moves e → e ≡ u) kept.design c.run_slot.ensures.only in
+    subst (λ d. (e : State) → IsSlot d t c.in-Some.vector.now.moves e → e ≡ u) kept.design c.run_slot.ensures.only in
     let text : slot_text c.loop-vector.writer.shown time c.values.result.now ≡ slot_text t.val time u.val =
-        ap (λ w. slot_text w time c.values.result.now) kept.shown ∙ ap (λ w. slot_text t.val time w) c.values.ensures.values in
+    ap (λ w. slot_text w time c.values.result.now) kept.shown ∙ ap (λ w. slot_text t.val time w) c.values.ensures.values in
     let part : (left : List ℕ) × Puts mid now (slot_text t.val time u.val) left =
-        subst (λ w. (left : List ℕ) × Puts mid now w left) text c.in_err-slot.ensures.written in
+    subst (λ w. (left : List ℕ) × Puts mid now w left) text c.in_err-slot.ensures.written in
     λ ends h. follows_stops c.from_residual.result c.args.queue.now.design c.args.queue.now.state t u c.args.writer.now.printed c.args.to c.loop-vector.writer.printed c.args.vectors.now _ mid now c.in-Some.vector.now c.loop-vector.rest.now c.in-Some.behind.now
-        kept.follows c.in-Some.ensures.1 c.in-Some.ensures.0 only c.from_residual.ensures.0 part ends h
+    kept.follows c.in-Some.ensures.1 c.in-Some.ensures.0 only c.from_residual.ensures.0 part ends h
 
 pub loop-vector-preserved : goal.loop-vector-preserved
 loop-vector-preserved g c =
@@ -42,13 +42,13 @@ loop-vector-preserved g c =
     let last = c.loop-vector.writer.printed in
     let shown = c.in_ok-slot.ensures.shown in
     let only : (e : State) → IsSlot c.args.queue.now.design t c.in-Some.vector.now.moves e → e ≡ u =
-        subst (λ d. (e : State) → IsSlot d t c.in-Some.vector.now.moves e → e ≡ u) kept.design c.run_slot.ensures.only in
+    subst (λ d. (e : State) → IsSlot d t c.in-Some.vector.now.moves e → e ≡ u) kept.design c.run_slot.ensures.only in
     let taken : now ≡ appended mid (slot_text t.val time u.val) =
-        c.in_ok-slot.ensures.written ∙ ap (λ w. appended mid (slot_text w time c.values.result.now)) kept.shown ∙ ap (λ w. appended mid (slot_text t.val time w)) c.values.ensures.values in
+    c.in_ok-slot.ensures.written ∙ ap (λ w. appended mid (slot_text w time c.values.result.now)) kept.shown ∙ ap (λ w. appended mid (slot_text t.val time w)) c.values.ensures.values in
     let printed : printed_after t.val last time u.val ≡ c.slot.new.self.printed =
-        sym (ap (λ p. p.printed) shown ∙ ap (λ w. printed_after w last time c.values.result.now) kept.shown ∙ ap (λ w. printed_after t.val last time w) c.values.ensures.values) in
+    sym (ap (λ p. p.printed) shown ∙ ap (λ w. printed_after w last time c.values.result.now) kept.shown ∙ ap (λ w. printed_after t.val last time w) c.values.ensures.values) in
     let more = follows_more c.args.queue.now.design c.args.queue.now.state t u c.args.writer.now.printed c.args.to last c.args.vectors.now _ mid now c.in-Some.vector.now c.loop-vector.rest.now c.in-Some.behind.now
-        kept.follows c.in-Some.ensures.1 c.in-Some.ensures.0 only taken in
+    kept.follows c.in-Some.ensures.1 c.in-Some.ensures.0 only taken in
     record {
       design = c.run_slot.ensures.design ∙ kept.design;
       ready = subst (λ d. IsReady d u) kept.design c.run_slot.ensures.ready;

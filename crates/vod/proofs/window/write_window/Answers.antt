@@ -31,10 +31,10 @@ returns-in_err-write_run-clause-begun g c =
     let before = g.K.Sink.taken c.args.out.now in
     let after = g.K.Sink.taken c.write_run.new.out in
     let writes : WritesRun {T = Unit {0}} {E = Failed} (Err c.in_err-write_run.field-0.0) (header_text r.source r.design) r.design r.vectors r.from r.to first before after =
-        λ ends h. subst (λ t. Written {T = Unit {0}} {E = Failed} (Err c.in_err-write_run.field-0.0) before after (t ++ window_text first.val (moments r.vectors ends) r.from r.to)) header
-          (c.in_err-write_run.ensures.written ends (subst (λ d. AreSlots d first r.vectors ends) (sym made.design) h)) in
+    λ ends h. subst (λ t. Written {T = Unit {0}} {E = Failed} (Err c.in_err-write_run.field-0.0) before after (t ++ window_text first.val (moments r.vectors ends) r.from r.to)) header
+    (c.in_err-write_run.ensures.written ends (subst (λ d. AreSlots d first r.vectors ends) (sym made.design) h)) in
     on_err c.from_residual-in_err-write_run.result
-      (window_begun {T = Unit {0}} {E = Failed} (Err c.in_err-write_run.field-0.0) c.in_err-write_run.field-0.0 refl c.orders_agree.ensures.settled c.window_is_cut.ensures.window r first before after made.ready c.requires made.only writes)
+    (window_begun {T = Unit {0}} {E = Failed} (Err c.in_err-write_run.field-0.0) c.in_err-write_run.field-0.0 refl c.orders_agree.ensures.settled c.window_is_cut.ensures.window r first before after made.ready c.requires made.only writes)
 
 pub returns-clause-written : goal.returns-clause-written
 returns-clause-written g c =
@@ -45,7 +45,7 @@ returns-clause-written g c =
     let before = g.K.Sink.taken c.args.out.now in
     let after = g.K.Sink.taken c.write_run.new.out in
     let writes : WritesRun {T = Unit {0}} {E = Failed} (Ok c.in_ok-write_run.field-0) (header_text r.source r.design) r.design r.vectors r.from r.to first before after =
-        λ ends h. subst (λ t. Written {T = Unit {0}} {E = Failed} (Ok c.in_ok-write_run.field-0) before after (t ++ window_text first.val (moments r.vectors ends) r.from r.to)) header
-          (c.in_ok-write_run.ensures.written ends (subst (λ d. AreSlots d first r.vectors ends) (sym made.design) h)) in
+    λ ends h. subst (λ t. Written {T = Unit {0}} {E = Failed} (Ok c.in_ok-write_run.field-0) before after (t ++ window_text first.val (moments r.vectors ends) r.from r.to)) header
+    (c.in_ok-write_run.ensures.written ends (subst (λ d. AreSlots d first r.vectors ends) (sym made.design) h)) in
     window_written {T = Unit {0}} {E = Failed} (Ok c.in_ok-write_run.field-0) c.in_ok-write_run.field-0 refl c.orders_agree.ensures.settled c.window_is_cut.ensures.window r first before after made.ready c.requires made.only
-      (c.orders_end.ensures.run_exists r.design r.vectors made.ready.accepted) writes
+    (c.orders_end.ensures.run_exists r.design r.vectors made.ready.accepted) writes
