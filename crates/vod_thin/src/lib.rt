@@ -7,6 +7,8 @@ mod ports;
 mod read;
 mod resolve;
 mod syntax;
+#[cfg(test)]
+mod tests;
 mod token;
 
 pub use fault::ThinFault;
