@@ -1,13 +1,12 @@
 -- Reductions as tests of the word.
-use Rattle.std.proofs.Common.{◌≡◌, ℕ, zero, suc, ◌+◌, ◌-◌, ◌*◌, ◌/◌, ◌%◌, ◌^◌, ◌<◌, ◌≤◌, Bool, true, false, not, eqb, refl, sym, ◌∙◌, ap, arith, pow_pos, pow-suc, mod-eq_of_lt}
+use Rattle.std.proofs.Common.{◌≡◌, ℕ, zero, suc, ◌+◌, ◌-◌, ◌*◌, ◌%◌, ◌^◌, ◌<◌, Bool, true, false, not, eqb, refl, sym, ◌∙◌, ap, arith, pow_pos, pow-suc}
 use Rattle.std.proofs.lemmas.Bool.{ne_eqb}
 use Rattle.std.specs.Int.{bit_at}
 use Rattle.std.specs.Int.Count.{ones, ones-ones}
-use Rattle.std.specs.Bool.{Decides}
 use Rattle.std.proofs.lemmas.Bool.Decides.{same_from_decides, Decides-eqb}
 use Rattle.std.proofs.lemmas.Nat.{mod_below, ones_cat}
 use Rattle.std.proofs.lemmas.Nat.Bits.{bit_at-lt}
-use Rattle.vod_bits.specs.Bit.{Bit, B0, B1, bit_if, and_bit, or_bit, xor_bit}
+use Rattle.vod_bits.specs.Bit.{B0, B1, bit_if, and_bit, or_bit, xor_bit}
 use Rattle.vod_bits.specs.Value.{bits_from, bits_of, digit_bit, fold_bits}
 use Rattle.vod_bits.specs.Fields.{digit_cases, low_bits-suc}
 

@@ -1,11 +1,11 @@
 -- Numbers and words by their digits.
-use Rattle.std.proofs.Common.{◌≡◌, ℕ, zero, suc, ◌+◌, ◌-◌, ◌*◌, ◌/◌, ◌%◌, ◌^◌, ◌<◌, ◌≤◌, min, max, bit_and, bit_or, bit_xor, Bool, true, false, cond, List, [], ◌∷◌, ◌++◌, length, map, refl, sym, ◌∙◌, ap, arith, pow_pos, mod-eq_of_lt, eqb, pow-suc}
+use Rattle.std.proofs.Common.{◌≡◌, ℕ, ◌+◌, ◌-◌, ◌*◌, ◌/◌, ◌%◌, ◌^◌, ◌<◌, ◌≤◌, min, max, bit_and, bit_or, bit_xor, Bool, ◌++◌, map, refl, sym, ◌∙◌, ap, arith, pow_pos}
 use Rattle.std.specs.Int.{bit_at}
-use Rattle.std.proofs.lemmas.Nat.{shr_split, shr-shr, mod_below}
-use Rattle.std.proofs.lemmas.Nat.Bits.{bit_at-lt, bit_at-zero, bit_at_and, bit_at_or, bit_at_xor, bit_at_ones, bit_at_ones_above, bit_at_above, bit_at_cat_low, bit_at_cat_high}
-use Rattle.vod_bits.specs.Bit.{Bit, B0, B1, bit_if, not_bit, and_bit, or_bit, xor_bit}
-use Rattle.vod_bits.specs.Value.{bits_from, bits_of, digit_bit, zip_with, number_of, shift_left, shift_right, slice_bits, resize_bits}
-use Rattle.vod_bits.specs.Fields.{digit_cases, number-of_bits, length-bits_from}
+use Rattle.std.proofs.lemmas.Nat.{shr_split, shr-shr}
+use Rattle.std.proofs.lemmas.Nat.Bits.{bit_at-lt, bit_at-zero, bit_at_and, bit_at_or, bit_at_xor, bit_at_ones, bit_at_above, bit_at_cat_low, bit_at_cat_high}
+use Rattle.vod_bits.specs.Bit.{B0, not_bit, and_bit, or_bit, xor_bit}
+use Rattle.vod_bits.specs.Value.{bits_of, digit_bit, zip_with, shift_left, shift_right, slice_bits, resize_bits}
+use Rattle.vod_bits.specs.Fields.{digit_cases}
 use Rattle.vod_bits.proofs.Places.{bits_from-same, zip-bits_from, map-bits_from, join-bits_from, shift_left-places, shift_right-places, slice-places, narrow-places}
 
 -- what holds of each pair of digits

@@ -1,6 +1,6 @@
 -- Lists of bits by their places.
-use Rattle.std.proofs.Common.{◌≡◌, ℕ, zero, suc, ◌+◌, ◌-◌, ◌<◌, ◌≤◌, List, [], ◌∷◌, ◌++◌, length, take, drop, replicate, map, refl, sym, ◌∙◌, ap, arith, append_assoc, add-suc, cond, Bool, true, false, ltb, inl, inr}
-use Rattle.std.proofs.lemmas.List.{take_at, drop_at, length-append, length-replicate, append-nil}
+use Rattle.std.proofs.Common.{◌≡◌, ℕ, zero, suc, ◌+◌, ◌-◌, ◌<◌, ◌≤◌, List, ◌∷◌, ◌++◌, length, take, drop, replicate, map, refl, sym, ◌∙◌, ap, arith, cond, Bool, ltb, inl, inr}
+use Rattle.std.proofs.lemmas.List.{take_at, drop_at}
 use Rattle.std.proofs.lemmas.Bool.{lt-ltb, le-ltb, cases_lt}
 use Rattle.vod_bits.specs.Bit.{Bit, B0}
 use Rattle.vod_bits.specs.Value.{bits_from, zip_with, shift_left, shift_right, resize_bits, slice_bits, upper_bit}

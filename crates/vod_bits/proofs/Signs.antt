@@ -1,11 +1,11 @@
 -- Signed values: the upper bit, what it fills, and the order of signed numbers.
-use Rattle.std.proofs.Common.{◌≡◌, ℕ, zero, suc, ◌+◌, ◌-◌, ◌*◌, ◌/◌, ◌%◌, ◌^◌, ◌<◌, ◌≤◌, ℤ, pos, ◌+ℤ◌, ◌-ℤ◌, ◌<ℤ◌, int_lt, ltb, bit_xor, Bool, true, false, cond, length, refl, sym, ◌∙◌, ap, arith, pow_pos, pow-suc, mod-eq_of_lt, pow_mono, le_trans, lt_of_lt_of_le, lt_of_le_of_lt}
+use Rattle.std.proofs.Common.{◌≡◌, ℕ, zero, suc, ◌+◌, ◌-◌, ◌*◌, ◌/◌, ◌%◌, ◌^◌, ◌<◌, ◌≤◌, ℤ, pos, ◌+ℤ◌, ◌-ℤ◌, int_lt, ltb, bit_xor, Bool, true, false, cond, length, refl, sym, ◌∙◌, ap, arith, pow_pos, pow-suc, mod-eq_of_lt, pow_mono, lt_of_lt_of_le, lt_of_le_of_lt}
 use Rattle.std.specs.Int.{bit_at}
 use Rattle.std.specs.Int.Bits.{xor_zero_r}
 use Rattle.std.proofs.lemmas.Int.{ints}
 use Rattle.std.proofs.lemmas.Nat.{xor_block, xor_lt, shr_le, mod_below}
-use Rattle.std.proofs.lemmas.Nat.Bits.{bit_at-lt, bit_at_xor, bit_at_ones, bit_at_ones_above, bit_at_above}
-use Rattle.vod_bits.specs.Bit.{Bit, B0, B1, bit_if, is_1}
+use Rattle.std.proofs.lemmas.Nat.Bits.{bit_at-lt, bit_at_xor, bit_at_ones, bit_at_above}
+use Rattle.vod_bits.specs.Bit.{B1, bit_if, is_1}
 use Rattle.vod_bits.specs.Value.{bits_from, bits_of, digit_bit, upper_bit, number_of, signed_of, shift_right, resize_bits}
 use Rattle.vod_bits.specs.Fields.{digit_cases, low_bits-suc, number-of_bits, length-bits_from}
 use Rattle.vod_bits.proofs.Places.{shift_right-places, widen-places, fill_of}

@@ -1,9 +1,9 @@
 -- What the fields of values tell of them.
-use Rattle.std.proofs.Common.{◌≡◌, ℕ, zero, suc, ◌+◌, ◌-◌, ◌*◌, ◌/◌, ◌%◌, ◌^◌, ◌<◌, ◌≤◌, bit_or, bit_xor, List, length, refl, sym, ◌∙◌, ap, arith, pow_pos, pow-add, mod-eq_of_lt, pow_mono, lt_of_lt_of_le, le_of_eq, add_comm}
-use Rattle.std.proofs.lemmas.Nat.{or_lt, xor_lt, or_shifted, shl_whole, mul-add-lt}
+use Rattle.std.proofs.Common.{◌≡◌, ℕ, suc, ◌+◌, ◌-◌, ◌*◌, ◌%◌, ◌^◌, ◌<◌, ◌≤◌, bit_or, List, length, sym, ◌∙◌, ap, arith, pow_pos, pow-add, mod-eq_of_lt, add_comm}
+use Rattle.std.proofs.lemmas.Nat.{or_shifted, shl_whole, mul-add-lt}
 use Rattle.std.proofs.lemmas.Nat.Bits.{bit_at_cat_low}
 use Rattle.vod_bits.specs.Bit.{Bit}
-use Rattle.vod_bits.specs.Value.{bits_from, bits_of, number_of, digit_bit, zip_with}
+use Rattle.vod_bits.specs.Value.{bits_of, number_of, digit_bit, zip_with}
 use Rattle.vod_bits.specs.Fields.{number-of_bits, length-bits_from}
 use Rattle.vod_bits.proofs.Places.{bits_from-same}
 use Rattle.vod_bits.proofs.Numbers.{low-bits}

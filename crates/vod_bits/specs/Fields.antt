@@ -1,7 +1,7 @@
 -- That a known value's bits give back its width and its word.
-use Rattle.std.specs.Prelude.{◌≡◌, ℕ, zero, suc, ◌+◌, ◌*◌, ◌/◌, ◌%◌, ◌^◌, ◌<◌, ◌≤◌, Bool, true, false, length}
-use Rattle.std.proofs.Common.{refl, sym, ◌∙◌, ap, arith, one-add, mod-eq_of_lt}
-use Rattle.std.proofs.lemmas.Nat.{mod-pow-add, pow_pos}
+use Rattle.std.specs.Prelude.{◌≡◌, ℕ, zero, suc, ◌+◌, ◌*◌, ◌%◌, ◌^◌, ◌<◌, length}
+use Rattle.std.proofs.Common.{refl, ◌∙◌, ap, arith, one-add, mod-eq_of_lt}
+use Rattle.std.proofs.lemmas.Nat.{mod-pow-add}
 use Rattle.std.proofs.lemmas.Nat.Bits.{bit_at-lt}
 use Rattle.std.specs.Int.{bit_at}
 use Rattle.vod_bits.specs.Bit.{Bit}
@@ -11,6 +11,10 @@ pub length-bits_from : (at : ℕ → Bit) (w : ℕ) → length (bits_from at w) 
 unfolding bits_from
 length-bits_from at zero = refl
 length-bits_from at (suc w) = ap suc (length-bits_from at w)
+
+-- a value of w bits has w bits
+pub width_back : (w n : ℕ) → length (bits_of w n) ≡ w
+width_back w n = length-bits_from (λ i. digit_bit (bit_at n i)) w
 
 -- what holds of 0 and of 1 holds of a digit of base 2
 pub digit_cases : (P : ℕ → Type 0) → P 0 → P 1 → (d : ℕ) → d < 2 → P d

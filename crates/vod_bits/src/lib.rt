@@ -249,3 +249,6 @@ impl Bits {
         }
     }
 }
+
+#[cfg(test)]
+mod tests;

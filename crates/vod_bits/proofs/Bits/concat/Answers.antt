@@ -1,4 +1,4 @@
-use Rattle.std.proofs.Common.{arith, ◌≡◌, ◌≤◌, ◌<◌, ◌+◌, ◌*◌, ◌%◌, ◌^◌, ◌∙◌, length, bit_or}
+use Rattle.std.proofs.Common.{arith, ◌≡◌, ◌≤◌, ◌+◌, length}
 use Rattle.vod_bits.proofs.Views.{length-view, joined-word, joined-lt}
 use Rattle.vod_bits.proofs.Numbers.{concat-bits}
 use Rattle.vod_bits.specs.Word.{word_bits}

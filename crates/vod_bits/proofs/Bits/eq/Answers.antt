@@ -1,5 +1,4 @@
 use Rattle.std.proofs.Common.{◌≡◌, ap, sym, ◌∙◌}
-use Rattle.std.specs.Bool.{Decides}
 use Rattle.std.proofs.lemmas.Bool.Decides.{Decides-eqb}
 use Rattle.vod_bits.proofs.Views.{number-view, widths-view}
 use Rattle.vod_bits.specs.Value.{bits_of, number_of}

@@ -1,7 +1,7 @@
 use Rattle.std.proofs.Common.{◌≡◌, ◌^◌, ◌-◌, pos, ◌+ℤ◌}
 use Rattle.vod_bits.proofs.Views.{widths-view}
 use Rattle.vod_bits.proofs.Signs.{order-bits}
-use Rattle.vod_bits.specs.Value.{bits_of, signed_of}
+use Rattle.vod_bits.specs.Value.{signed_of}
 use Rattle.vod_bits.proofs.Bits.lt_signed.Goals as goal
 
 pub returns : goal.returns

@@ -1,4 +1,4 @@
-use Rattle.std.proofs.Common.{arith, ◌≡◌, ◌≤◌, ◌<◌, ◌+◌, ◌-◌, ◌^◌, ◌∙◌, ap, zero-add}
+use Rattle.std.proofs.Common.{arith, ◌≤◌, ◌+◌, ◌-◌, ◌^◌, ◌∙◌, ap, zero-add}
 use Rattle.vod_bits.proofs.Views.{length-view, number-view, kept-bits, borrow-bits}
 use Rattle.vod_bits.specs.Value.{bits_of}
 use Rattle.vod_bits.specs.Word.{word_bits}

@@ -1,6 +1,6 @@
-use Rattle.std.proofs.Common.{arith, ◌≡◌, ◌≤◌, ◌∙◌, sym, ap, cond, refl}
+use Rattle.std.proofs.Common.{arith, ◌≡◌, ◌≤◌, ◌∙◌, sym, ap, cond}
 use Rattle.vod_bits.specs.Bit.{bit_if, B0}
-use Rattle.vod_bits.specs.Value.{bits_of, upper_bit}
+use Rattle.vod_bits.specs.Value.{bits_of}
 use Rattle.vod_bits.proofs.Numbers.{low-bits, narrow-bits}
 use Rattle.vod_bits.proofs.Places.{fill_of}
 use Rattle.vod_bits.proofs.Signs.{upper-bits, widen-lt, widen-bits}

@@ -1,4 +1,4 @@
-use Rattle.std.proofs.Common.{arith, ◌≡◌, ◌∙◌, sym, ap}
+use Rattle.std.proofs.Common.{◌≡◌, ◌∙◌, sym}
 use Rattle.vod_bits.specs.Bit.{bit_if}
 use Rattle.vod_bits.specs.Value.{bits_of, upper_bit}
 use Rattle.vod_bits.proofs.Signs.{upper-bits, sar-lt, sar-bits}

@@ -1,4 +1,4 @@
-use Rattle.std.proofs.Common.{arith, ◌≡◌, ◌≤◌, ◌<◌, ◌/◌, ◌^◌, zero-add, zero, ◌+◌, pow_mono, lt_of_lt_of_le}
+use Rattle.std.proofs.Common.{arith, ◌≤◌, ◌<◌, ◌/◌, ◌^◌, zero-add, ◌+◌, pow_mono}
 use Rattle.std.proofs.lemmas.Nat.{shr_below}
 use Rattle.vod_bits.specs.Word.{word_bits}
 use Rattle.vod_bits.proofs.word.shifted_right.Goals as goal
