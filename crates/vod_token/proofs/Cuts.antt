@@ -1,5 +1,5 @@
 -- How the bytes of a source fall into tokens: step by step, and in one way.
-use Rattle.std.proofs.Common.{◌≡◌, ℕ, ◌+◌, ◌<◌, ◌≤◌, List, [], ◌∷◌, ◌++◌, arith, length, take, drop, refl, sym, ◌∙◌, ap, Option, Some, None, Ok, Err, subst}
+use Rattle.std.proofs.Common.{length-drop, zero, suc, Result, ◌-◌, ◌≡◌, ℕ, ◌+◌, ◌<◌, ◌≤◌, List, [], ◌∷◌, ◌++◌, arith, length, take, drop, refl, sym, ◌∙◌, ap, Option, Some, None, Ok, Err, subst}
 use Rattle.std.proofs.Math.Seq.{take-append_seam, drop-append_seam}
 use Rattle.std.proofs.lemmas.Grind.{common_steps}
 use Rattle.std.proofs.lemmas.List.{take-append-drop}
@@ -209,3 +209,34 @@ one_fall (takes at text rest form ts fault holds right more) us other g =
 one_fall (refuses at text rest form fault holds wrong) us other g =
     let e = fault_inverse (wrong_with at (length text) form) at (text ++ rest) form (length text) fault us other wrong (take_inverse at text rest form us other holds g) in (sym e.0, sym e.1)
 one_fall (stops at b bs layout holds) us other g = let e = stop_inverse at b bs us other layout holds g in (sym e.0, sym e.1)
+
+-- What the bytes from a place on fall into.
+abbrev pub Fallen : ℕ → List ℕ → Type 0
+Fallen at bytes = (ts : List Token) × (fault : Option LexFault) × Falls at bytes ts fault
+
+fallen_token : (at : ℕ) (bytes : List ℕ) → 0 < length bytes → layout_len bytes ≡ None → ((n : ℕ) → 0 < n → n ≤ length bytes → Fallen (at + n) (drop n bytes))
+    → (r : Result (TokenKind × ℕ) LexFault) → token_at at bytes ≡ r → Fallen at bytes
+fallen_token at bytes some none more (Ok (kind, n)) e =
+    let t = taken at bytes kind n e in
+    let rest = more n t.some t.within in
+    (made kind at n ∷ rest.0, rest.1, t.step rest.0 rest.1 rest.2)
+fallen_token at bytes some none more (Err fault) e = ([], Some fault, refused at bytes fault e some none)
+
+fallen_by : (at : ℕ) (bytes : List ℕ) → 0 < length bytes → ((n : ℕ) → 0 < n → n ≤ length bytes → Fallen (at + n) (drop n bytes)) → (o : Option ℕ) → layout_len bytes ≡ o → Fallen at bytes
+fallen_by at bytes some more (Some n) e =
+    let begun = layout_sound bytes n e in
+    let rest = more n begun.some begun.within in
+    (rest.0, rest.1, skip_step at bytes n rest.0 rest.1 e rest.2)
+fallen_by at bytes some more None e = fallen_token at bytes some e more (token_at at bytes) refl
+
+fallen_within : (most at : ℕ) (bytes : List ℕ) → length bytes ≤ most → Fallen at bytes
+fallen_within most at [] le = ([], None, ends at)
+fallen_within zero at (b ∷ bs) le = absurd (omega arith)
+fallen_within (suc most) at (b ∷ bs) le =
+    fallen_by at (b ∷ bs) (omega arith)
+    (λ n some within. fallen_within most (at + n) (drop n (b ∷ bs)) (let long : length (drop n (b ∷ bs)) ≡ suc (length bs) - n = length-drop n (b ∷ bs) in omega arith))
+    (layout_len (b ∷ bs)) refl
+
+-- The bytes fall into tokens, or stop.
+pub some_fall : (at : ℕ) (bytes : List ℕ) → Fallen at bytes
+some_fall at bytes = fallen_within (length bytes) at bytes (omega arith)

@@ -1,5 +1,5 @@
 -- How the bytes of a source fall into white space, comments and tokens, and where they first don't.
-use Rattle.std.specs.Prelude.{◌≡◌, ◌≢◌, ℕ, ◌+◌, ◌-◌, ◌^◌, ◌<◌, ◌≤◌, ◌⊎◌, true, ◌&&◌, if◌then◌else◌, ◌==◌, nat_lt, nat_le, List, [], ◌∷◌, ◌++◌, length, drop, Option, None, Some, slice_index, ⊤}
+use Rattle.std.specs.Prelude.{◌≡◌, ◌≢◌, ℕ, ◌+◌, ◌-◌, ◌^◌, ◌<◌, ◌≤◌, ◌⊎◌, true, ◌&&◌, if◌then◌else◌, ◌==◌, nat_lt, nat_le, List, [], ◌∷◌, ◌++◌, length, drop, Option, None, Some, slice_index, codes, ⊤}
 use Rattle.std.specs.List.{AllByRecursion}
 use Rattle.vod_token.specs.Form.{is_white, IsWhite, Form, IsSpelled, kind_of}
 use Rattle.vod_token.specs.Form.Form.{Word, Plain, Based, Directive, Symbol}
@@ -10,17 +10,20 @@ use Rattle.vod_token.specs.declared.LexFault.TheVariants as faults
 
 -- the body of a block comment ends at the first `*/`: none begins earlier
 abbrev pub ClosesFirst : List ℕ → Type 0
-ClosesFirst body = (before after : List ℕ) → body ++ 42 ∷ 47 ∷ [] ≡ before ++ 42 ∷ 47 ∷ after → length body ≤ length before
+ClosesFirst body =
+    (before after : List ℕ) → body ++ codes "*/" ≡ before ++ (codes "*/" ++ after) → length body ≤ length before
 
--- white space, or a comment: from `//` to before a line feed or the end, or from `/*` to the first `*/` (3.2, 3.3)
+-- White space, or a comment, before a rest: from `//` to before a line feed or the end, or from `/*` to the first `*/`
+-- (3.2, 3.3; 10 is a line feed).
 pub data IsLayout : List ℕ → List ℕ → Type 0 where
   white : (b : ℕ) (rest : List ℕ) → is_white b ≡ true → IsLayout (b ∷ []) rest
-  line : (body rest : List ℕ) → AllByRecursion (λ b. b ≢ 10) body → (rest ≡ []) ⊎ (slice_index rest 0 ≡ 10) → IsLayout (47 ∷ 47 ∷ body) rest
-  block : (body rest : List ℕ) → ClosesFirst body → IsLayout (47 ∷ 42 ∷ (body ++ 42 ∷ 47 ∷ [])) rest
+  line : (body rest : List ℕ) → AllByRecursion (λ b. b ≢ 10) body → (rest ≡ []) ⊎ (slice_index rest 0 ≡ 10)
+      → IsLayout (codes "//" ++ body) rest
+  block : (body rest : List ℕ) → ClosesFirst body → IsLayout (codes "/*" ++ (body ++ codes "*/")) rest
 
 -- what follows a plain number makes it the beginning of a based number: white space or none, and `'`
 abbrev pub BeginsBase : List ℕ → Type 0
-BeginsBase rest = (gap after : List ℕ) × IsWhite gap × (rest ≡ gap ++ 39 ∷ after)
+BeginsBase rest = (gap after : List ℕ) × IsWhite gap × (rest ≡ gap ++ (codes "'" ++ after))
 
 -- a form that what follows allows
 abbrev pub IsWhole : Form → List ℕ → Type 0
@@ -33,7 +36,8 @@ IsWhole Symbol rest = ⊤
 -- the bytes hold this text as a token of this form, before the rest: no longer front of them is spelled as a token
 pub record Holds (text rest : List ℕ) (form : Form) : Type 0 where
   pub spelled : IsSpelled text form
-  pub longest : (more after : List ℕ) (other : Form) → rest ≡ more ++ after → IsSpelled (text ++ more) other → more ≡ []
+  pub longest : (more after : List ℕ) (other : Form)
+      → rest ≡ more ++ after → IsSpelled (text ++ more) other → more ≡ []
   pub whole : IsWhole form rest
 
 -- What is wrong with a based number that begins at a place: its size is at least 1, and size and value are within the limit.
@@ -76,4 +80,5 @@ pub record Continues (at : ℕ) (bytes : List ℕ) (t : Token) : Type 0 where
   pub start : t.start ≡ at
   pub some : at < t.end
   pub within : t.end ≤ at + length bytes
-  pub step : (ts : List Token) (fault : Option LexFault) → Falls t.end (drop (t.end - at) bytes) ts fault → Falls at bytes (t ∷ ts) fault
+  pub step : (ts : List Token) (fault : Option LexFault)
+      → Falls t.end (drop (t.end - at) bytes) ts fault → Falls at bytes (t ∷ ts) fault

@@ -34,7 +34,7 @@ abbrev pub IsWord : List ℕ → Type 0
 IsWord [] = ⊥
 IsWord (b ∷ bs) = (is_letter b ≡ true) × AllByRecursion (λ c. is_word_byte c ≡ true) bs
 
--- the base that a letter stands for, 0 for any other byte (3.5.1)
+-- the base that a letter stands for: `b` or `B`, `o` or `O`, `d` or `D`, `h` or `H`; 0 for any other byte (3.5.1)
 abbrev pub base_of : ℕ → ℕ
 base_of b =
     if b == 98 || b == 66 then 2
@@ -55,14 +55,14 @@ pub record Parts : Type 0 where
 -- they make a based number; without a size it begins with `'` (3.5.1)
 pub record AreParts (p : Parts) : Type 0 where
   pub size : ((p.size ≡ []) × (p.gap ≡ [])) ⊎ (IsBased 10 p.size × IsWhite p.gap)
-  pub sign : (p.sign ≡ []) ⊎ ((p.sign ≡ 115 ∷ []) ⊎ (p.sign ≡ 83 ∷ []))
+  pub sign : (p.sign ≡ []) ⊎ ((p.sign ≡ codes "s") ⊎ (p.sign ≡ codes "S"))
   pub letter : 0 < base_of p.letter
   pub space : IsWhite p.space
   pub digits : IsBased (base_of p.letter) p.digits
 
 -- its text
 abbrev pub text_of : Parts → List ℕ
-text_of p = p.size ++ (p.gap ++ 39 ∷ (p.sign ++ p.letter ∷ (p.space ++ p.digits)))
+text_of p = p.size ++ (p.gap ++ (codes "'" ++ (p.sign ++ p.letter ∷ (p.space ++ p.digits))))
 
 -- its size in bits, 32 where none is given
 abbrev pub size_of : List ℕ → ℕ
@@ -110,7 +110,7 @@ pub record IsTimescale (text : List ℕ) : Type 0 where
   pub behind_blank : IsBlank behind
   pub precision_time : IsTime precision precision_length
   pub order : precision_length ≤ unit_length
-  pub spelled : text ≡ codes "`timescale" ++ (gap ++ (unit ++ (before ++ 47 ∷ (behind ++ precision))))
+  pub spelled : text ≡ codes "`timescale" ++ (gap ++ (unit ++ (before ++ (codes "/" ++ (behind ++ precision)))))
 
 -- `default_nettype with `none` or `wire` (19.2)
 pub record IsNettype (text : List ℕ) : Type 0 where

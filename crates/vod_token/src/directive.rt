@@ -79,7 +79,8 @@ fn net_at(bytes: &[u8]) -> Option<&[u8]>
 
 // The number of the first word of the table that stands at the front, and what stands behind it.
 fn choice<'a>(table: &[(&str, u64)], bytes: &'a [u8]) -> Option<(u64, &'a [u8])>
-    ensures { option_map (λ found. (found.0, found.1.now)) result ≡ choice (map (λ entry. (entry.0.now, entry.1)) table.now) bytes.now }
+    ensures { option_map (λ found. (found.0, found.1.now)) result
+        ≡ choice (map (λ entry. (entry.0.now, entry.1)) table.now) bytes.now }
 {
     for (word, number) in table {
         if let Some(rest) = behind(bytes, word.as_bytes()) {

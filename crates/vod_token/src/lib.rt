@@ -15,7 +15,7 @@ mod symbol;
 #[cfg(test)]
 mod tests;
 
-pub use cut::{one_reading, tokens};
+pub use cut::{one_form, one_reading, tokens};
 use std::alloc::{AllocError, AllocFailed};
 
 /// A stretch of the source that is one token: `source[start..end]`.

@@ -47,7 +47,8 @@ pub(crate) fn check_nesting(alloc: Global, source: &[u8], tokens: &[Token]) -> R
 // The last count and the outer ones behind a token.
 fn change(last: &mut u32, outer: &mut Vec<u32>, effect: Effect) -> Result<(), AllocError>
     requires { last.old < 1000 }
-    ensures { OnOk result (last.new ∷ reverse outer.new.items ≡ changed effect last.old (reverse outer.old.items)) }
+    ensures { OnOk result (last.new ∷ reverse outer.new.items
+        ≡ changed effect last.old (reverse outer.old.items)) }
 {
     match effect {
         Effect::Opens => {
