@@ -160,8 +160,7 @@ impl Expr {
 /// An expression's value hangs on what it reads alone.
 pub fn value_hangs_on_reads()
     ensures { (e : Expr) (u v : ℕ → Bit) → All (λ s. u s ≡ v s) (reads e) → value_of e u ≡ value_of e v }
-{
-}
+{}
 
 /// A continuous assignment: the number of its target, and its right side (IEEE 1364-2005, 6.1).
 #[derive(Clone, Copy, Debug)]
@@ -185,13 +184,9 @@ impl Model for Design {
 
     ghost Value = { Netlist };
 
-    ghost view = {
-        λ a. record { name = a.name; signals = a.signals.items; inputs = a.inputs.items; drivers = a.drivers.items }
-    };
+    ghost view = { λ a. record { name = a.name; signals = a.signals.items; inputs = a.inputs.items; drivers = a.drivers.items } };
 
-    ghost invariant = {
-        λ a. IsAccepted (record { name = a.name; signals = a.signals.items; inputs = a.inputs.items; drivers = a.drivers.items })
-    };
+    ghost invariant = { λ a. IsAccepted (record { name = a.name; signals = a.signals.items; inputs = a.inputs.items; drivers = a.drivers.items }) };
 }
 
 impl Design {

@@ -97,6 +97,13 @@ shaped_completion d s t a shaped due c =
     let way = IsUnderway-steps d (input_end d s) c.events s t a c.steps (underway d s shaped due) in
     (way.shaped, IsSettled-resting d t c.ends way.due)
 
+-- every completed slot 0 ends alike, and settled
+pub same_first : (d : Netlist) (t u : State) → IsAccepted d → Completes d (start_of d) t → Completes d (start_of d) u → t ≡ u
+same_first d t u a c e = same_completion d (start_of d) t u a (IsShaped-start_of d) (AreDue-start_of d) c e
+
+pub first_end : (d : Netlist) (t : State) → IsAccepted d → Completes d (start_of d) t → IsShaped d t × IsSettled d t
+first_end d t a c = shaped_completion d (start_of d) t a (IsShaped-start_of d) (AreDue-start_of d) c
+
 -- every completed slot from a settled state ends alike
 pub same_slot_end : (d : Netlist) (s t u : State) (moves : List Move) → IsAccepted d → IsShaped d s → IsSettled d s → IsSlot d s moves t → IsSlot d s moves u → t ≡ u
 same_slot_end d s t u moves a shaped settled c e =

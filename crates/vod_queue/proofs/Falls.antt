@@ -16,7 +16,7 @@ use Rattle.vod_queue.specs.Choice.{Takes}
 use Rattle.vod_queue.specs.Weight.{driver_weight, drivers_weight, weight_of}
 use Rattle.vod_queue.specs.Index.{reads_signal}
 use Rattle.vod_queue.proofs.Ranked.{reads_no_later_target}
-use Rattle.vod_queue.proofs.Woken.{length-woken}
+use Rattle.vod_queue.proofs.Woken.{length-woken, length-woken_unless, flag_within}
 
 power : (n : ℕ) → 1 ≤ 3 ^ n
 power n = one-le-pow n 3 (omega arith)
@@ -107,19 +107,10 @@ put_falls : (same : Bool) (drivers : List Driver) (s : ℕ) (flags : List Bool) 
 put_falls true drivers s flags values j h some free = set_falls flags values j h some
 put_falls false drivers s flags values j h some free = update_falls drivers s flags values j h some free
 
-length-woken_unless : (same : Bool) (drivers : List Driver) (s : ℕ) (flags : List Bool) → length (woken_unless same drivers s flags) ≡ length flags
-length-woken_unless true drivers s flags = refl
-length-woken_unless false drivers s flags = length-woken drivers s flags
-
 pub some_within : {A : Type 0} (xs : List (Option A)) (i : ℕ) → is_some (get_or xs i None) ≡ true → i < length xs
 some_within [] i h = absurd (cc)
 some_within (x ∷ xs) zero h = omega arith
 some_within (x ∷ xs) (suc i) h = let l = some_within xs i h in omega arith
-
-pub flag_within : (flags : List Bool) (i : ℕ) → flag_at flags i ≡ true → i < length flags
-flag_within [] i h = absurd (cc)
-flag_within (flag ∷ flags) zero h = omega arith
-flag_within (flag ∷ flags) (suc i) h = let l = flag_within flags i h in omega arith
 
 count_falls : {A : Type 0} (xs : List (Option A)) (i : ℕ) → is_some (get_or xs i None) ≡ true → count_by is_some (set xs i None) + 1 ≡ count_by is_some xs
 count_falls xs i some =

@@ -14,3 +14,5 @@ pub mod Due
 pub mod Underway
 pub mod Unique
 pub mod Ends
+pub mod Gates
+pub mod Tree

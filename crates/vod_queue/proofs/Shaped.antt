@@ -1,5 +1,5 @@
 -- Each state has a place for each signal, input and driver, and keeps it.
-use Rattle.std.proofs.Common.{◌≡◌, ℕ, Bool, true, false, List, length, set, refl, ◌∙◌, Option, Some, None, length-set, unwrap_or, slice_index, if◌then◌else◌}
+use Rattle.std.proofs.Common.{◌≡◌, ℕ, true, false, List, length, set, ◌∙◌, Option, Some, None, length-set, unwrap_or, slice_index, if◌then◌else◌}
 use Rattle.std.specs.List.{slice_get}
 use Rattle.std.proofs.lemmas.List.{length-replicate}
 use Rattle.vod_design.specs.declared.thin.Bit.{Bit}
@@ -10,11 +10,11 @@ use Rattle.vod_design.specs.Bits.{value_at, same_bit}
 use Rattle.vod_design.specs.Expr.{value_of}
 use Rattle.vod_design.specs.Netlist.{Netlist, has, targets}
 use Rattle.vod_queue.specs.State.{State, start_of, opened, option_at, assignment, IsShaped}
-use Rattle.vod_queue.specs.Step.{Event, after, put, woken_unless, pending, evaluated}
+use Rattle.vod_queue.specs.Step.{Event, after, put, pending, evaluated}
 use Rattle.vod_queue.specs.Step.Event.{TakeMove, Evaluate, Update}
 use Rattle.vod_queue.proofs.First.{first_values}
 use Rattle.vod_queue.proofs.Tabled.{length-tabled}
-use Rattle.vod_queue.proofs.Woken.{length-woken}
+use Rattle.vod_queue.proofs.Woken.{length-woken_unless}
 
 length-first : (d : Netlist) → length (first_values d.inputs d.signals) ≡ length d.signals
 length-first d = length-tabled (λ s. if has d.inputs s then Z else X) d.signals
@@ -29,10 +29,6 @@ IsShaped-start_of d = record {
 
 pub IsShaped-opened : (d : Netlist) (moves : List Move) (s : State) → IsShaped d s → IsShaped d (opened d moves s)
 IsShaped-opened d moves s shaped = record { val = shaped.val; moves = length-tabled (assignment moves) d.inputs; wake = shaped.wake; pend = shaped.pend }
-
-length-woken_unless : (b : Bool) (drivers : List Driver) (s : ℕ) (flags : List Bool) → length (woken_unless b drivers s flags) ≡ length flags
-length-woken_unless true drivers s flags = refl
-length-woken_unless false drivers s flags = length-woken drivers s flags
 
 pub IsShaped-put : (d : Netlist) (signal : ℕ) (b : Bit) (s : State) → IsShaped d s → IsShaped d (put d signal b s)
 IsShaped-put d signal b s shaped = record {

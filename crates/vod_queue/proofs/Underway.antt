@@ -16,9 +16,10 @@ use Rattle.vod_queue.specs.Step.{Event, is_allowed, after, put, pending, evaluat
 use Rattle.vod_queue.specs.Step.Event.{TakeMove, Evaluate, Update}
 use Rattle.vod_queue.specs.Run.{Steps}
 use Rattle.vod_queue.proofs.Due.{IsDueIn, AreDue, IsDue-pending, IsDueIn-put, IsDueIn-performed}
-use Rattle.vod_queue.proofs.Falls.{some_within, flag_within}
+use Rattle.vod_queue.proofs.Falls.{some_within}
 use Rattle.vod_queue.proofs.Has.{has-get_or}
 use Rattle.vod_queue.proofs.Shaped.{IsShaped-after}
+use Rattle.vod_queue.proofs.Woken.{flag_within}
 
 target_at : (drivers : List Driver) (j : ℕ) (driver : Driver) → slice_get drivers j ≡ Some driver → slice_index (targets drivers) j ≡ driver.target
 target_at drivers j driver at =

@@ -6,7 +6,7 @@ use Rattle.std.proofs.lemmas.List.Elements.{All-from_get_or}
 use Rattle.vod_design.specs.declared.thin.Driver.{Driver}
 use Rattle.vod_design.specs.Netlist.{Netlist, has}
 use Rattle.vod_queue.specs.State.{State, flag_at, IsShaped}
-use Rattle.vod_queue.specs.Step.{woken}
+use Rattle.vod_queue.specs.Step.{woken, woken_unless}
 use Rattle.vod_queue.specs.Flags.{set_all}
 use Rattle.vod_queue.specs.Index.{reads_signal, list_at, IsIndex}
 use Rattle.vod_queue.proofs.Has.{or-false, or-true, has-get_or}
@@ -35,6 +35,16 @@ pub length-woken : (drivers : List Driver) (s : ℕ) (flags : List Bool) → len
 length-woken [] s flags = refl
 length-woken (driver ∷ drivers) s [] = refl
 length-woken (driver ∷ drivers) s (flag ∷ flags) = ap suc (length-woken drivers s flags)
+
+pub length-woken_unless : (same : Bool) (drivers : List Driver) (s : ℕ) (flags : List Bool) → length (woken_unless same drivers s flags) ≡ length flags
+length-woken_unless true drivers s flags = refl
+length-woken_unless false drivers s flags = length-woken drivers s flags
+
+-- a flag that is set is one of them
+pub flag_within : (flags : List Bool) (i : ℕ) → flag_at flags i ≡ true → i < length flags
+flag_within [] i h = absurd (cc)
+flag_within (flag ∷ flags) zero h = omega arith
+flag_within (flag ∷ flags) (suc i) h = let l = flag_within flags i h in omega arith
 
 pub flag_at-woken : (drivers : List Driver) (s : ℕ) (flags : List Bool) (k : ℕ) → k < length flags → flag_at (woken drivers s flags) k ≡ (flag_at flags k || reads_signal drivers s k)
 flag_at-woken [] s flags k h = sym (or-false (flag_at flags k))

@@ -45,7 +45,7 @@ impl Agenda {
         Ok(Agenda {
             val: first_values(alloc, design)?,
             moves: Waiting::none(alloc, inputs)?,
-            wake: Flags::all(alloc, drivers, true)?,
+            wake: Flags::all(alloc, drivers)?,
             pend: Waiting::none(alloc, drivers)?,
         })
     }

@@ -1,44 +1,58 @@
 //! Flags by place: how many are set, and where the n-th of these is.
-ghost use Rattle.std.specs.Prelude.{◌≡◌, ℕ, ◌+◌, ◌<◌, ◌≤◌, ◌^◌, true, length, take, replicate, cond, slice_set, IfOk};
+ghost use Rattle.std.specs.Prelude.{◌≡◌, ℕ, ◌+◌, ◌*◌, ◌<◌, ◌≤◌, ◌^◌, true, false, not, length, take, replicate, slice_set, slice_index, IfOk};
 ghost use Rattle.vod_queue.specs.State.{flag_at};
-ghost use Rattle.vod_queue.specs.Flags.{set_count};
+ghost use Rattle.vod_queue.specs.Flags.{digit_of, set_count, AreSums, AreSumsBut, IsTree};
 
 use std::alloc::{AllocError, Global};
 use std::marker::Model;
 
-/// Flags by place.
+/// Flags by place. The counts are a binary tree with its root at 1: node `n` counts the set flags
+/// below its children `2n` and `2n + 1`, and the leaves are the flags. So to write a flag, or to
+/// find the n-th that is set, takes a step for each level.
 #[derive(Debug, Drop)]
 pub struct Flags {
     flags: Vec<bool>,
-    count: u32,
-    /// No flag is set before this place.
-    first: u32,
+    counts: Vec<u32>,
+    leaves: u32,
+    height: u32,
 }
 
 impl Model for Flags {
     ghost use Rattle.std.specs.Prelude.{List, Bool};
-    ghost use Rattle.vod_queue.specs.Flags.{IsTallied};
+    ghost use Rattle.vod_queue.specs.Flags.{IsTree};
 
     ghost Value = { List Bool };
 
     ghost view = { λ a. a.flags.items };
 
-    ghost invariant = { λ a. IsTallied a.flags.items a.count a.first };
+    ghost invariant = { λ a. IsTree a.flags.items a.counts.items a.leaves a.height };
 }
 
 impl Flags {
-    /// So many flags, all alike.
-    pub fn all(alloc: Global, len: usize, flag: bool) -> Result<Flags, AllocError>
+    /// So many flags, none of them set.
+    pub fn none(alloc: Global, len: usize) -> Result<Flags, AllocError>
         requires { len < 2 ^ 25 }
-        ensures { IfOk result (λ flags. flags ≡ replicate len flag) }
+        ensures { IfOk result (λ flags. flags ≡ replicate len false) }
     {
-        let flags = vec![in alloc; flag; len]?;
-        let count = if flag { len as u32 } else { 0 };
+        let (leaves, height) = leaves_for(len);
         Ok(Flags {
-            flags,
-            count,
-            first: 0,
+            flags: vec![in alloc; false; len]?,
+            counts: vec![in alloc; 0; 2 * leaves as usize]?,
+            leaves,
+            height,
         })
+    }
+
+    /// So many flags, all of them set.
+    pub fn all(alloc: Global, len: usize) -> Result<Flags, AllocError>
+        requires { len < 2 ^ 25 }
+        ensures { IfOk result (λ flags. flags ≡ replicate len true) }
+    {
+        let mut flags = Flags::none(alloc, len)?;
+        for place in 0..len {
+            flags.write(place as u32, true);
+        }
+        Ok(flags)
     }
 
     /// How many are set.
@@ -46,7 +60,7 @@ impl Flags {
         ensures count { result ≡ set_count self.now }
         ensures few { length self.now < 2 ^ 25 }
     {
-        self.count
+        self.counts[1]
     }
 
     /// Sets or clears the flag at a place.
@@ -54,60 +68,76 @@ impl Flags {
         requires { place < length self.old }
         ensures { self.new ≡ slice_set self.old place flag }
     {
-        let old = self.flags[place as usize];
-        self.flags[place as usize] = flag;
-        self.count = recount(self.count, old, flag);
-        if flag {
-            self.first = self.first.min(place);
+        if self.flags[place as usize] == flag {
+            return;
         }
+        let leaf = self.leaves + place;
+        self.flags[place as usize] = flag;
+        self.counts[leaf as usize] = u32::from(flag);
+        recount(&mut self.counts, self.leaves, leaf / 2, flag);
     }
 
     /// The place of the set flag before which `nth` others are set.
-    pub fn find(&mut self, nth: u32) -> u32
-        requires { nth < set_count self.old }
-        ensures same { self.new ≡ self.old }
-        ensures within { result < length self.old }
-        ensures set { flag_at self.old result ≡ true }
-        ensures nth { set_count (take result self.old) ≡ nth }
+    pub fn find(&self, nth: u32) -> u32
+        requires { nth < set_count self.now }
+        ensures within { result < length self.now }
+        ensures set { flag_at self.now result ≡ true }
+        ensures nth { set_count (take result self.now) ≡ nth }
     {
-        let place = find_from(self.flags.as_slice(), self.first, nth);
-        if nth == 0 {
-            self.first = place;
+        let mut level = 1;
+        let mut place = 0;
+        let mut left = nth;
+        for _ in 0..self.height {
+            level *= 2;
+            place *= 2;
+            let first = self.counts[(level + place) as usize];
+            if left >= first {
+                left -= first;
+                place += 1;
+            }
         }
         place
     }
 }
 
-/// The count of set flags after one was written.
-fn recount(count: u32, old: bool, new: bool) -> u32
-    requires counted { cond old 1 0 ≤ count }
-    requires few { count ≤ 2 ^ 25 }
-    ensures { result + cond old 1 0 ≡ count + cond new 1 0 }
+/// The least power of two that is no less, and its exponent.
+fn leaves_for(len: usize) -> (u32, u32)
+    requires { len < 2 ^ 25 }
+    ensures low { result.1 ≤ 25 }
+    ensures power { result.0 ≡ 2 ^ result.1 }
+    ensures room { len ≤ result.0 }
 {
-    match (old, new) {
-        (false, true) => count + 1,
-        (true, false) => count - 1,
-        _ => count,
+    let mut leaves = 1;
+    let mut height = 0;
+    while (leaves as usize) < len {
+        leaves *= 2;
+        height += 1;
+    }
+    (leaves, height)
+}
+
+/// Counts one more, or one less, in the nodes from this one up to the root.
+fn recount(counts: &mut [u32], leaves: u32, node: u32, added: bool)
+    requires size { length counts.old ≡ 2 * leaves }
+    requires within { node < leaves }
+    requires small { (n : ℕ) → 1 ≤ n → n ≤ node → slice_index counts.old n ≤ 2 ^ 26 }
+    requires sums { AreSumsBut node added leaves counts.old }
+    ensures size { length counts.new ≡ 2 * leaves }
+    ensures leaves { (n : ℕ) → leaves ≤ n → slice_index counts.new n ≡ slice_index counts.old n }
+    ensures sums { AreSums leaves counts.new }
+{
+    let mut node = node;
+    while node > 0 {
+        counts[node as usize] = mended(counts[node as usize], added);
+        node /= 2;
     }
 }
 
-/// The place of the set flag before which `nth` others are set, none of them before `from`.
-fn find_from(flags: &[bool], from: u32, nth: u32) -> u32
-    requires few { length flags.now < 2 ^ 25 }
-    requires none_before { set_count (take from flags.now) ≡ 0 }
-    requires enough { nth < set_count flags.now }
-    ensures from { from ≤ result }
-    ensures within { result < length flags.now }
-    ensures set { flag_at flags.now result ≡ true }
-    ensures nth { set_count (take result flags.now) ≡ nth }
+/// A count with one more, or one less.
+fn mended(count: u32, added: bool) -> u32
+    requires some { digit_of (not added) ≤ count }
+    requires few { count ≤ 2 ^ 26 }
+    ensures { result + digit_of (not added) ≡ count + digit_of added }
 {
-    let mut place = from;
-    let mut left = nth;
-    while !flags[place as usize] || left > 0 {
-        if flags[place as usize] {
-            left -= 1;
-        }
-        place += 1;
-    }
-    place
+    if added { count + 1 } else { count - 1 }
 }

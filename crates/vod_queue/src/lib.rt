@@ -14,6 +14,8 @@ mod agenda;
 mod flags;
 mod orders;
 mod readers;
+#[cfg(test)]
+mod tests;
 mod waiting;
 
 use crate::agenda::Agenda;
@@ -56,7 +58,8 @@ impl<'d> Queue<'d> {
     /// The queue at time 0, before any step: inputs are z, all else is x, and every driver
     /// awaits evaluation. It takes all the memory that later calls need.
     pub fn start(alloc: Global, design: &'d Design) -> Result<Queue<'d>, Memory>
-        ensures { IfOk result (λ queue. (queue.design ≡ design.now) × (queue.state ≡ start_of design.now)) }
+        ensures core { IfOk result (λ queue. (queue.design ≡ design.now) × (queue.state ≡ start_of design.now)) }
+        ensures accepted { IfOk result (λ queue. IsAccepted design.now) }
     {
         let readers = Readers::of(alloc, design)?;
         let agenda = Agenda::start(alloc, design)?;

@@ -3,14 +3,16 @@ ghost use Rattle.std.specs.Prelude.{◌≡◌, ◌+◌, ◌≤◌, List, length}
 ghost use Rattle.vod_design.specs.declared.thin.Move.{Move};
 ghost use Rattle.vod_design.specs.declared.thin.Vector.{Vector};
 ghost use Rattle.vod_design.specs.Netlist.{Netlist, IsAccepted};
-ghost use Rattle.vod_queue.specs.State.{State, IsShaped, IsResting};
+ghost use Rattle.vod_queue.specs.State.{State, start_of, IsShaped, IsResting};
 ghost use Rattle.vod_queue.specs.Step.{Event};
-ghost use Rattle.vod_queue.specs.Run.{Steps, IsSlot, IsRun, IsSettled};
+ghost use Rattle.vod_queue.specs.Run.{Steps, Completes, IsSlot, IsRun, IsSettled};
 ghost use Rattle.vod_queue.specs.Weight.{weight_of};
 
-/// Whatever order of events was taken, a slot from one settled state ends in one state, which is
-/// settled too; so all legal runs of the same vectors have the same ends.
+/// Whatever order of events was taken, slot 0, and a slot from one settled state, end in one state,
+/// which is settled too; so all legal runs of the same vectors have the same ends.
 pub fn orders_agree()
+    ensures first_end { (d : Netlist) (t u : State) → IsAccepted d → Completes d (start_of d) t → Completes d (start_of d) u → t ≡ u }
+    ensures first_settled { (d : Netlist) (t : State) → IsAccepted d → Completes d (start_of d) t → IsShaped d t × IsSettled d t }
     ensures one_end { (d : Netlist) (s t u : State) (moves : List Move) → IsAccepted d → IsShaped d s → IsSettled d s → IsSlot d s moves t → IsSlot d s moves u → t ≡ u }
     ensures settled { (d : Netlist) (s t : State) (moves : List Move) → IsAccepted d → IsShaped d s → IsSettled d s → IsSlot d s moves t → IsShaped d t × IsSettled d t }
     ensures one_run { (d : Netlist) (vectors : List Vector) (first again : State) (ends others : List State) → IsAccepted d → IsRun d vectors first ends → IsRun d vectors again others → (first ≡ again) × (ends ≡ others) }

@@ -34,7 +34,7 @@ impl Waiting {
     {
         Ok(Waiting {
             bits: vec![in alloc; None; len]?,
-            filled: Flags::all(alloc, len, false)?,
+            filled: Flags::none(alloc, len)?,
         })
     }
 

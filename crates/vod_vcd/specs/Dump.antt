@@ -1,5 +1,5 @@
 -- The full dump of a run, its cut to a window, and its text. They speak of whole lists.
-use Rattle.std.specs.Prelude.{ℕ, ◌==◌, ◌&&◌, ◌<◌, Bool, true, false, not, List, [], ◌∷◌, ◌++◌, nat_lt, nat_le, map, filter, zip, fold, slice_set, if◌then◌else◌}
+use Rattle.std.specs.Prelude.{ℕ, ◌==◌, ◌&&◌, Bool, true, false, not, List, [], ◌∷◌, ◌++◌, nat_lt, nat_le, map, filter, zip, fold, slice_set, if◌then◌else◌}
 use Rattle.std.specs.List.{enumerate_from, flat_map}
 use Rattle.vod_design.specs.declared.thin.Bit.{Bit}
 use Rattle.vod_design.specs.Bits.{same_bit}

@@ -1,3 +1,4 @@
 pub mod Text
 pub mod Dump
 pub mod Stream
+pub mod Page

@@ -1,5 +1,5 @@
 -- A window as it is written, slot by slot, with no whole dump: what the four calls of the writer write in turn.
-use Rattle.std.specs.Prelude.{ℕ, Bool, List, [], ◌∷◌, ◌++◌, nat_le, if◌then◌else◌}
+use Rattle.std.specs.Prelude.{ℕ, List, [], ◌∷◌, ◌++◌, nat_le, if◌then◌else◌}
 use Rattle.vod_design.specs.declared.thin.Bit.{Bit}
 use Rattle.vod_vcd.specs.Text.{opening_text, change_text}
 use Rattle.vod_vcd.specs.Dump.{Moment, differing, closing_text}

@@ -29,6 +29,14 @@ digit One = 49
 digit X = 120
 digit Z = 122
 
+-- `$comment source sha256 H $end`, with the digest H of the source in lower-case hexadecimal digits
+abbrev pub digest_line : List ℕ → List ℕ
+digest_line source = line (codes "$comment source sha256 " ++ encode_lower (sha256 source) ++ codes " $end")
+
+-- `$scope module NAME $end`
+abbrev pub scope_line : List ℕ → List ℕ
+scope_line name = line (codes "$scope module " ++ name ++ codes " $end")
+
 -- `$var wire 1 CODE NAME $end`
 abbrev pub var_line : ℕ → Signal → List ℕ
 var_line n signal = line (codes "$var wire 1 " ++ code n ++ codes " " ++ signal.name ++ codes " $end")
@@ -37,9 +45,9 @@ var_line n signal = line (codes "$var wire 1 " ++ code n ++ codes " " ++ signal.
 abbrev pub header_text : List ℕ → Netlist → List ℕ
 header_text source d =
     line (codes "$version vod 1 $end")
-    ++ line (codes "$comment source sha256 " ++ encode_lower (sha256 source) ++ codes " $end")
+    ++ digest_line source
     ++ line (codes "$timescale 1 ns $end")
-    ++ line (codes "$scope module " ++ d.name ++ codes " $end")
+    ++ scope_line d.name
     ++ flat_map (λ e. var_line e.0 e.1) (enumerate_from 0 d.signals)
     ++ line (codes "$upscope $end")
     ++ line (codes "$enddefinitions $end")
@@ -52,11 +60,15 @@ time_line time = line (35 ∷ decimal time)
 abbrev pub value_line : ℕ → Bit → List ℕ
 value_line n value = line (digit value ∷ code n)
 
+-- the lines of some signals' values
+abbrev pub value_lines : List (ℕ × Bit) → List ℕ
+value_lines pairs = flat_map (λ pair. value_line pair.0 pair.1) pairs
+
 -- a time, and the value of each signal, between `$dumpvars` and `$end`
 abbrev pub opening_text : ℕ → List Bit → List ℕ
 opening_text time values =
-    time_line time ++ line (codes "$dumpvars") ++ flat_map (λ e. value_line e.0 e.1) (enumerate_from 0 values) ++ line (codes "$end")
+    time_line time ++ line (codes "$dumpvars") ++ value_lines (enumerate_from 0 values) ++ line (codes "$end")
 
 -- a time, and the values of the signals that changed
 abbrev pub change_text : ℕ → List (ℕ × Bit) → List ℕ
-change_text time pairs = time_line time ++ flat_map (λ pair. value_line pair.0 pair.1) pairs
+change_text time pairs = time_line time ++ value_lines pairs

@@ -1,11 +1,26 @@
-//! The value change dump of a run (IEEE 1364-2005, 18).
+//! The value change dump of a run (IEEE 1364-2005, 18), written as the run goes on.
 #![tactic(auto)]
 
-ghost use Rattle.std.specs.Prelude.{◌≡◌};
-ghost use Rattle.vod_vcd.specs.Dump.{Dump, cut};
-ghost use Rattle.vod_vcd.specs.Stream.{window_text};
+mod header;
+mod law;
+mod lines;
+mod writer;
 
-pub fn nothing()
-    ensures { (dump : Dump) → cut dump 0 0 ≡ cut dump 0 0 }
-{
+pub use law::window_is_cut;
+use std::alloc::AllocError;
+pub use writer::Writer;
+
+/// The refusal for want of memory.
+#[derive(Clone, Copy, Debug, PartialEq, Eq)]
+pub struct Memory;
+
+impl From<AllocError> for Memory {
+    ghost from_gives = { λ _ _. Unit {0} };
+
+    fn from(_error: AllocError) -> Memory {
+        Memory
+    }
 }
+
+#[cfg(test)]
+mod tests;

@@ -1,4 +1,4 @@
-use Rattle.vod_queue.proofs.Ends.{same_slot_end, slot_end, same_run}
+use Rattle.vod_queue.proofs.Ends.{same_first, first_end, same_slot_end, slot_end, same_run}
 use Rattle.vod_queue.proofs.orders.orders_agree.Goals as goal
 
 pub returns-clause-one_end : goal.returns-clause-one_end
@@ -9,3 +9,9 @@ returns-clause-settled c = slot_end
 
 pub returns-clause-one_run : goal.returns-clause-one_run
 returns-clause-one_run c = same_run
+
+pub returns-clause-first_end : goal.returns-clause-first_end
+returns-clause-first_end c = same_first
+
+pub returns-clause-first_settled : goal.returns-clause-first_settled
+returns-clause-first_settled c = first_end

@@ -1,0 +1,17 @@
+use Rattle.std.proofs.Common.{◌∙◌}
+use Rattle.vod.proofs.StepsLaws.{completes_from}
+use Rattle.vod.proofs.run.started.Goals as goal
+
+pub returns-clause-ready : goal.returns-clause-ready
+returns-clause-ready c =
+    let core = c.in_ok-queue.ensures.core in
+    let first = completes_from c.args.design.now _ _ c.settle.new.queue.state core.0 core.1 c.settle.ensures.completes in
+    let accepted = c.in_ok-queue.ensures.accepted in
+    let end = c.orders_agree.ensures.first_settled c.args.design.now c.settle.new.queue.state accepted first in
+    record { accepted = accepted; shaped = end.0; settled = end.1; rests = first.ends }
+
+pub returns-clause-only : goal.returns-clause-only
+returns-clause-only c =
+    let core = c.in_ok-queue.ensures.core in
+    let first = completes_from c.args.design.now _ _ c.settle.new.queue.state core.0 core.1 c.settle.ensures.completes in
+    λ t h. c.orders_agree.ensures.first_end c.args.design.now t c.settle.new.queue.state c.in_ok-queue.ensures.accepted h first

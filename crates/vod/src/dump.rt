@@ -1,0 +1,71 @@
+//! The command `dump DESIGN A B`.
+ghost use Rattle.std.specs.Prelude.{◌≡◌, ◌≤◌, Err, map, string_bytes};
+ghost use Rattle.vod.specs.Answer.{World, Count, Answers, IsQuiet};
+ghost use Rattle.vod.specs.declared.status.Part.TheVariants as part;
+
+use crate::command::command;
+use crate::inside::is_inside;
+use crate::phase::{reading_of, vectors_of};
+use crate::status::{Part, Stop};
+use crate::window::write_window;
+use std::alloc::Global;
+use vod_io::{Sink, Source};
+use vod_thin::one_design;
+use vod_thin_script::one_reading;
+
+/// Writes the window that the words ask for, of the design over the vectors of the input.
+pub fn dump<D: Source, S: Source, K: Sink>(
+    alloc: Global,
+    words: &[String],
+    design: &mut D,
+    input: &mut S,
+    out: &mut K,
+) -> Result<(), Stop>
+    ensures answers { Answers (record {
+      words = map string_bytes words.now;
+      source = D.left design.old;
+      script = S.left input.old;
+      before = K.taken out.old;
+      after = K.taken out.new;
+      design_faults = record { before = D.faults design.old; after = D.faults design.new };
+      input_faults = record { before = S.faults input.old; after = S.faults input.new };
+      out_faults = record { before = K.faults out.old; after = K.faults out.new };
+    }) result }
+    ensures quiet { IsQuiet result → out.new ≡ out.old }
+    ensures unread { result ≡ Err Stop.Usage → design.new ≡ design.old }
+    ensures no_input { result ≡ Err Stop.Usage → input.new ≡ input.old }
+    ensures no_script { result ≡ Err (Stop.NotYet part.Design) → input.new ≡ input.old }
+    ensures design_counted { D.faults design.old ≤ D.faults design.new }
+    ensures input_counted { S.faults input.old ≤ S.faults input.new }
+    ensures out_counted { K.faults out.old ≤ K.faults out.new }
+{
+    one_design();
+    one_reading();
+    let window = match command(words) {
+        Some(window) => window,
+        None => return Err(Stop::Usage),
+    };
+    let reading = match reading_of(alloc, design) {
+        Ok(reading) => reading,
+        Err(fault) => return Err(fault.stop(Part::Design)),
+    };
+    let vectors = match vectors_of(alloc, &reading.design, input) {
+        Ok(vectors) => vectors,
+        Err(fault) => return Err(fault.stop(Part::Script)),
+    };
+    if !is_inside(vectors.as_slice(), window) {
+        return Err(Stop::NotYet(Part::Window));
+    }
+    let source = reading.source.as_slice();
+    match write_window(
+        alloc,
+        source,
+        &reading.design,
+        vectors.as_slice(),
+        window,
+        out,
+    ) {
+        Ok(()) => Ok(()),
+        Err(fault) => Err(fault.stop()),
+    }
+}

@@ -1,0 +1,62 @@
+//! vod, VCD on demand: the waveform of one window of a simulation, when it is asked for.
+#![tactic(auto)]
+
+mod command;
+mod dump;
+mod inside;
+mod phase;
+mod run;
+mod status;
+#[cfg(test)]
+mod tests;
+mod top;
+mod window;
+
+use crate::status::{Status, Stop, report};
+use crate::top::vod;
+use std::alloc::{AllocError, Global};
+use std::process::ExitCode;
+use std::{env, io};
+use vod_io::{FileSource, StdSink, StdSource};
+
+/// The words behind the program's name; none where one isn't UTF-8.
+fn words(rt: HostRuntime) -> Result<Vec<String>, AllocError> {
+    match env::args(&rt) {
+        Ok(args) => args.skip(1).collect(rt.alloc()),
+        Err(fault) if fault.kind() == io::ErrorKind::OutOfMemory => Err(AllocError),
+        Err(_) => Ok(Vec::new(rt.alloc())),
+    }
+}
+
+/// The path of the design: the second word.
+fn design_path(alloc: Global, words: &[String]) -> Result<String, AllocError> {
+    match words.get(1) {
+        Some(path) => path.clone(),
+        None => Ok(String::new(alloc)),
+    }
+}
+
+/// Runs the command of the arguments on the design's file and the standard streams.
+fn execute(rt: HostRuntime) -> Result<Status, AllocError> {
+    let words = words(rt)?;
+    let mut design = FileSource::new(rt, design_path(rt.alloc(), &words)?);
+    let mut input = StdSource::new(rt);
+    let mut out = StdSink::new(rt, false);
+    let mut err = StdSink::new(rt, true);
+    Ok(vod(
+        rt.alloc(),
+        &words,
+        &mut design,
+        &mut input,
+        &mut out,
+        &mut err,
+    ))
+}
+
+fn main(rt: HostRuntime) -> ExitCode {
+    let status = match execute(rt) {
+        Ok(status) => status,
+        Err(AllocError) => report(Stop::Memory, &mut StdSink::new(rt, true)),
+    };
+    ExitCode::from(status.code())
+}

@@ -1,0 +1,47 @@
+//! A run of the event queue, slot by slot.
+ghost use Rattle.std.specs.Prelude.{◌≡◌, IfOk};
+ghost use Rattle.vod_design.specs.Vectors.{IsVector};
+ghost use Rattle.vod_queue.specs.State.{State, start_of};
+ghost use Rattle.vod_queue.specs.Run.{Completes, IsSlot};
+ghost use Rattle.vod.specs.Progress.{IsReady};
+
+use std::alloc::Global;
+use vod_design::thin::{Design, Vector};
+use vod_queue::{Memory, Queue, orders_agree};
+
+/// Takes events until nothing is left.
+fn settle(queue: &mut Queue<'_>)
+    ensures design { queue.new.design ≡ queue.old.design }
+    ensures completes { Completes queue.old.design queue.old.state queue.new.state }
+{
+    while queue.choices() > 0 {
+        queue.step(0);
+    }
+}
+
+/// The queue of a design at the end of slot 0.
+pub fn started(alloc: Global, design: &Design) -> Result<Queue<'_>, Memory>
+    ensures design { IfOk result (λ queue. queue.design ≡ design.now) }
+    ensures ready { IfOk result (λ queue. IsReady design.now queue.state) }
+    ensures completes { IfOk result (λ queue. Completes design.now (start_of design.now) queue.state) }
+    ensures only { IfOk result (λ queue. (t : State) → Completes design.now (start_of design.now) t → t ≡ queue.state) }
+{
+    let mut queue = Queue::start(alloc, design)?;
+    settle(&mut queue);
+    orders_agree();
+    Ok(queue)
+}
+
+/// Runs the slot of a vector.
+pub fn run_slot(queue: &mut Queue<'_>, vector: &Vector)
+    requires ready { IsReady queue.old.design queue.old.state }
+    requires form { IsVector queue.old.design vector.now }
+    ensures design { queue.new.design ≡ queue.old.design }
+    ensures ready { IsReady queue.old.design queue.new.state }
+    ensures slot { IsSlot queue.old.design queue.old.state vector.now.moves queue.new.state }
+    ensures only { (t : State) → IsSlot queue.old.design queue.old.state vector.now.moves t → t ≡ queue.new.state }
+{
+    queue.open_slot(vector.moves.as_slice());
+    settle(queue);
+    orders_agree();
+}

@@ -1,0 +1,5 @@
+pub mod Places
+pub mod Numbers
+pub mod Folds
+pub mod Signs
+pub mod Views

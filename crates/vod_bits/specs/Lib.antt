@@ -1,0 +1,4 @@
+pub mod Bit
+pub mod Value
+pub mod Word
+pub mod Fields

@@ -1,0 +1,8 @@
+-- The table has the names of the inputs so far.
+use Rattle.std.proofs.Common.{◌≡◌, List, ℕ, map, take}
+use Rattle.std.specs.Borrow.{Bor}
+use Rattle.vod_design.specs.Names.{input_names}
+use Rattle.vod_thin_script.proofs.inputs.Inputs.of.Given as goal
+
+abbrev pub invariant-loop-signal : goal.invariant-loop-signal
+invariant-loop-signal l = map (λ (name : Bor (List ℕ)). name.now) l.names.keys ≡ take l.signal-index (input_names l.design)

@@ -1,0 +1,11 @@
+pub mod Based
+pub mod Cuts
+pub mod Directives
+pub mod Layouts
+pub mod Lexemes
+pub mod Lists
+pub mod Nestings
+pub mod Numbers
+pub mod Readings
+pub mod ReservedWords
+pub mod Symbols

@@ -1,0 +1,6 @@
+pub mod Codes
+pub mod Differ
+pub mod Entries
+pub mod Times
+pub mod Overwrite
+pub mod Windows
