@@ -81,6 +81,7 @@ expr_of ports (Two left op right) = joined op (operand_of ports left) (operand_o
 abbrev pub driver_of : List Port → Assign → Driver
 driver_of ports assign = record { target = place_of ports assign.target; value = expr_of ports assign.value }
 
+-- the signal of a port
 abbrev pub signal_of : Port → Signal
 signal_of port = record { name = port.name }
 
