@@ -1,10 +1,9 @@
 -- Each answer of `dump`, from what its phases say.
-use Rattle.std.proofs.Common.{◌≡◌, ℕ, List, Option, None, Some, Result, Ok, Err, refl, sym, ap, subst, ◌∙◌, inl, inr, ◌⊎◌, IsTrue, true, false}
+use Rattle.std.proofs.Common.{◌≡◌, ℕ, List, Err, refl, sym, subst, inl, inr}
 use Rattle.vod_io.specs.Told.{Told, Tells}
 use Rattle.vod_design.specs.declared.thin.Vector.{Vector}
 use Rattle.vod_design.specs.Netlist.{Netlist}
 use Rattle.vod_design.specs.Names.{HasPlainNames}
-use Rattle.vod_design.specs.Vectors.{IsLawful}
 use Rattle.vod_thin.specs.Thin.{IsThin}
 use Rattle.vod_thin_script.specs.Script.{IsScript}
 use Rattle.vod.specs.declared.phase.PhaseFault.{PhaseFault}
@@ -16,7 +15,7 @@ use Rattle.vod.specs.declared.status.Part.TheVariants as part
 use Rattle.vod.specs.Phases.{stop_of}
 use Rattle.vod.specs.Windows.{window_stop, request_of}
 use Rattle.vod.specs.Command.{IsCommand}
-use Rattle.vod.specs.Request.{Request, Asks, IsInside, IsWritten, IsBegun}
+use Rattle.vod.specs.Request.{Request, IsInside, IsBegun}
 use Rattle.vod.specs.Answer.{World, IsRisen, HasCommand, HasDesign, HasNoDesign, HasVectors, HasNoVectors, AsksFor, AsksNothing, Answers}
 
 -- a source has one design

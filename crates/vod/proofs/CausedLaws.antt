@@ -1,16 +1,14 @@
 -- Each status of the program, from the answer of its command and the report of it.
-use Rattle.std.proofs.Common.{◌≡◌, ◌⊎◌, ℕ, List, Option, None, Some, Result, Ok, Err, refl, sym, ap, subst, ◌∙◌, inl, inr}
-use Rattle.vod_io.specs.Told.{appended, Puts}
+use Rattle.std.proofs.Common.{◌≡◌, ◌⊎◌, ℕ, List, Some, Ok, Err, refl, sym, ap, subst, ◌∙◌, inl, inr}
 use Rattle.vod_design.specs.declared.thin.Vector.{Vector}
 use Rattle.vod_design.specs.Netlist.{Netlist}
 use Rattle.vod_thin.specs.Thin.{IsThin}
 use Rattle.vod_thin_script.specs.Script.{IsScript}
-use Rattle.vod.specs.Request.{Request, Asks, IsWritten, IsBegun}
-use Rattle.vod.specs.Answer.{Count, IsRisen, World, HasCommand, HasNoCommand, HasDesign, HasNoDesign, HasVectors, HasNoVectors, AsksFor, AsksNothing, Answers, IsQuiet}
+use Rattle.vod.specs.Request.{Request, Asks}
+use Rattle.vod.specs.Answer.{Count, IsRisen, World, HasCommand, HasNoCommand, HasDesign, Answers, IsQuiet}
 use Rattle.vod.proofs.AnswerLaws.{OneDesign}
-use Rattle.vod.specs.Ends.{status_of, line_of, status_line, Reports}
-use Rattle.vod.specs.Caused.{IsCaused, IsCalm, IsComplete, IsPrefix, IsSaid, IsRefusal, IsAnswered}
-use Rattle.vod.specs.declared.status.Part.{Part}
+use Rattle.vod.specs.Ends.{status_of}
+use Rattle.vod.specs.Caused.{IsCaused, IsCalm, IsComplete, IsPrefix, IsAnswered}
 use Rattle.vod.specs.declared.status.Part.TheVariants as part
 use Rattle.vod.specs.declared.status.Status.{Status}
 use Rattle.vod.specs.declared.status.Status.TheVariants as status

@@ -1,8 +1,8 @@
 -- The first and the last time of lawful vectors.
-use Rattle.std.proofs.Common.{◌≡◌, ◌≢◌, ℕ, ◌<◌, ◌≤◌, List, [], ◌∷◌, ◌++◌, cond, true, Some, None, Option, refl, sym, ap, subst, ◌∙◌, arith, IsTrue, length}
+use Rattle.std.proofs.Common.{◌≡◌, ℕ, ◌≤◌, List, [], ◌∷◌, ◌++◌, cond, Some, None, refl, sym, ap, ◌∙◌, arith, length}
 use Rattle.vod_design.specs.declared.thin.Vector.{Vector}
 use Rattle.vod_design.specs.Netlist.{Netlist}
-use Rattle.vod_design.specs.Vectors.{IsLawful, gives_all, known_since, known_since_after, last_time, last_time_after}
+use Rattle.vod_design.specs.Vectors.{IsLawful, known_since, known_since_after, last_time, last_time_after}
 use Rattle.vod.specs.Request.{IsInside}
 
 last_time_of : (t : ℕ) (front : List Vector) (w : Vector) → last_time_after t (front ++ w ∷ []) ≡ w.time

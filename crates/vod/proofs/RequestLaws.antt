@@ -1,14 +1,14 @@
 -- The window of a request, from what the four calls of the writer write.
-use Rattle.std.proofs.Common.{◌≡◌, ℕ, zero, suc, ◌<◌, ◌≤◌, ◌+◌, List, [], ◌∷◌, ◌++◌, map, length, All, get_or, refl, sym, ap, subst, ◌∙◌, arith, Option, Result, Ok, Err, IsErr}
+use Rattle.std.proofs.Common.{◌≡◌, ℕ, zero, suc, List, [], ◌∷◌, ◌++◌, map, length, All, refl, sym, ap, subst, ◌∙◌, arith, Option, Result, Ok, Err}
 use Rattle.std.specs.List.Sorted.{IsStrictlyIncreasing, IsNonDecreasing}
-use Rattle.vod_io.specs.Told.{appended, Puts, Written}
+use Rattle.vod_io.specs.Told.{Written}
 use Rattle.vod_io.proofs.Puts.{Puts-start}
 use Rattle.vod_design.specs.declared.thin.Bit.{Bit}
 use Rattle.vod_design.specs.declared.thin.Move.{Move}
 use Rattle.vod_design.specs.declared.thin.Vector.{Vector}
 use Rattle.vod_design.specs.Netlist.{Netlist, IsAccepted}
 use Rattle.vod_design.specs.Vectors.{times, IsLawful}
-use Rattle.vod_queue.specs.State.{State, start_of, IsShaped, IsResting}
+use Rattle.vod_queue.specs.State.{State, start_of, IsShaped}
 use Rattle.vod_queue.specs.Run.{Completes, IsSlot, AreSlots, IsRun, IsSettled}
 use Rattle.vod_vcd.specs.Text.{header_text}
 use Rattle.vod_vcd.specs.Dump.{Moment, full_dump, cut, dump_text}

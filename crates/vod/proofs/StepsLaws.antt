@@ -1,5 +1,5 @@
 -- Lists of events, one more at a time.
-use Rattle.std.proofs.Common.{◌≡◌, ℕ, List, [], ◌∷◌, ◌++◌, refl, sym, ap, subst, ◌∙◌, true, IsTrue}
+use Rattle.std.proofs.Common.{◌≡◌, ℕ, List, [], ◌∷◌, ◌++◌, refl, sym, ap, subst, ◌∙◌, IsTrue}
 use Rattle.vod_design.specs.Netlist.{Netlist}
 use Rattle.vod_design.specs.declared.thin.Move.{Move}
 use Rattle.vod_queue.specs.State.{State, start_of, opened, IsResting}

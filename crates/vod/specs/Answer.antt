@@ -7,7 +7,7 @@ use Rattle.vod_design.specs.Netlist.{Netlist}
 use Rattle.vod_thin.specs.Thin.{IsThin}
 use Rattle.vod_thin_script.specs.Script.{IsScript}
 use Rattle.vod.specs.Command.{IsCommand}
-use Rattle.vod.specs.Request.{Request, Asks, IsInside, IsWritten, IsBegun}
+use Rattle.vod.specs.Request.{Request, Asks, IsWritten, IsBegun}
 use Rattle.vod.specs.declared.status.Part.TheVariants as part
 use Rattle.vod.specs.declared.status.Stop.{Stop}
 use Rattle.vod.specs.declared.status.Stop.TheVariants as stop

@@ -1,11 +1,10 @@
 -- The statuses of the program, each with its cause, and what stands in for each refusal.
-use Rattle.std.specs.Prelude.{◌≡◌, ◌⊎◌, ℕ, List, Option, Some, ◌++◌}
+use Rattle.std.specs.Prelude.{◌≡◌, ◌⊎◌, ℕ, List, Option, Some}
 use Rattle.vod_io.specs.Told.{appended, Puts}
 use Rattle.vod_design.specs.declared.thin.Vector.{Vector}
 use Rattle.vod_design.specs.Netlist.{Netlist}
 use Rattle.vod_thin.specs.Thin.{IsThin}
 use Rattle.vod_thin_script.specs.Script.{IsScript}
-use Rattle.vod.specs.Command.{IsCommand}
 use Rattle.vod.specs.Request.{Request, Asks, IsWritten, IsBegun}
 use Rattle.vod.specs.Answer.{Count, IsRisen, World, HasCommand, HasNoCommand, HasDesign, HasNoDesign, HasVectors, HasNoVectors, AsksFor, AsksNothing}
 use Rattle.vod.specs.Ends.{line_of, status_line}

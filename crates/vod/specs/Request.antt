@@ -1,5 +1,5 @@
 -- What the words, the design and the script ask for, and its answer.
-use Rattle.std.specs.Prelude.{◌≡◌, ℕ, ◌≤◌, List, ◌++◌, Option, Some}
+use Rattle.std.specs.Prelude.{◌≡◌, ℕ, ◌≤◌, List, Option, Some}
 use Rattle.vod_io.specs.Told.{appended, Puts}
 use Rattle.vod_design.specs.declared.thin.Vector.{Vector}
 use Rattle.vod_design.specs.Netlist.{Netlist}

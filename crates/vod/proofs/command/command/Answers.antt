@@ -1,7 +1,7 @@
-use Rattle.std.proofs.Common.{◌≡◌, ℕ, ◌<◌, map, length, string_bytes, ap, sym, subst, ◌∙◌, arith, List, [], codes, get_or}
+use Rattle.std.proofs.Common.{◌≡◌, map, length, string_bytes, sym, subst, ◌∙◌, arith, [], codes, get_or}
 use Rattle.std.proofs.lemmas.List.{length-map}
 use Rattle.std.proofs.lemmas.Slice.Eq.{bytes_eq-Decides}
-use Rattle.vod.specs.Command.{IsTime, IsCommand}
+use Rattle.vod.specs.Command.{IsTime}
 use Rattle.vod.proofs.CommandLaws.{map_at, four_words}
 use Rattle.vod.proofs.command.command.Goals as goal
 

@@ -1,14 +1,7 @@
 use Rattle.std.proofs.lemmas.Bool.{false≢true}
 use Rattle.vod_design.specs.Vectors.{IsLawful}
-use Rattle.std.proofs.Common.{◌↔◌, ◌≡◌, ◌⊎◌, ◌≤◌, ◌<◌, ◌^◌, ℕ, List, Result, Ok, Err, OnErr, refl, sym, ap, subst, ◌∙◌, inl, inr, map, string_bytes, true, false, IsTrue}
-use Rattle.vod_io.specs.Told.{Tells}
-use Rattle.vod_design.specs.declared.thin.Vector.{Vector}
-use Rattle.vod_thin_script.specs.Script.{IsScript}
-use Rattle.vod.specs.declared.status.Part.TheVariants as part
-use Rattle.vod.specs.declared.phase.PhaseFault.TheVariants.{Read, Refused}
-use Rattle.vod.specs.declared.window.WindowFault.TheVariants as fault
-use Rattle.vod.specs.Command.{IsCommand}
-use Rattle.vod.specs.Request.{IsInside, IsWritten, IsBegun}
+use Rattle.std.proofs.Common.{◌↔◌, Err, refl, sym, ap, subst, ◌∙◌, map, string_bytes, IsTrue}
+use Rattle.vod.specs.Request.{IsInside, IsBegun}
 use Rattle.vod.specs.Windows.{request_of}
 use Rattle.vod.specs.Answer.{World, HasCommand, Answers}
 use Rattle.vod.proofs.CommandLaws.{one_command}

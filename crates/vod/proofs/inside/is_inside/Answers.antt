@@ -1,4 +1,3 @@
-use Rattle.std.proofs.Common.{◌≡◌}
 use Rattle.vod.proofs.InsideLaws.{inside_to, inside_from}
 use Rattle.vod.proofs.inside.is_inside.Goals as goal
 

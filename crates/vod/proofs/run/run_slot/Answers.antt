@@ -1,5 +1,3 @@
-use Rattle.std.proofs.Common.{◌∙◌}
-use Rattle.vod_queue.specs.Run.{IsSlot}
 use Rattle.vod.proofs.StepsLaws.{slot_from}
 use Rattle.vod.proofs.run.run_slot.Goals as goal
 

@@ -1,4 +1,3 @@
-use Rattle.std.proofs.Common.{◌∙◌}
 use Rattle.vod.proofs.StepsLaws.{completes_from}
 use Rattle.vod.proofs.run.started.Goals as goal
 

@@ -1,4 +1,4 @@
-use Rattle.std.proofs.Common.{◌∙◌, ◌≡◌, subst, sym}
+use Rattle.std.proofs.Common.{◌∙◌, ◌≡◌, subst}
 use Rattle.vod_design.specs.Vectors.{IsVector}
 use Rattle.vod_queue.specs.State.{State}
 use Rattle.vod_queue.specs.Run.{IsSlot}

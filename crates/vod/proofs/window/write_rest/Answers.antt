@@ -1,11 +1,11 @@
 use Rattle.vod_io.specs.Told.{appended, Puts}
 use Rattle.vod_vcd.specs.Stream.{slot_text, printed_after}
-use Rattle.std.proofs.Common.{List, ℕ, ◌∙◌, ◌≡◌, ◌≤◌, subst, sym, ap, arith, length}
+use Rattle.std.proofs.Common.{List, ℕ, ◌∙◌, ◌≡◌, subst, sym, ap, arith}
 use Rattle.vod_design.specs.Vectors.{IsVector}
 use Rattle.vod_queue.specs.State.{State}
-use Rattle.vod_queue.specs.Run.{IsSlot, AreSlots}
+use Rattle.vod_queue.specs.Run.{IsSlot}
 use Rattle.vod.specs.Progress.{IsReady, Follows}
-use Rattle.vod.proofs.WindowLaws.{follows_start, follows_more, follows_close, follows_stops, all_behind, all_first}
+use Rattle.vod.proofs.WindowLaws.{follows_more, follows_close, follows_stops, all_behind, all_first}
 use Rattle.vod.proofs.window.write_rest.Goals as goal
 
 pub run_slot-requires-clause-form : goal.run_slot-requires-clause-form

@@ -1,6 +1,4 @@
-use Rattle.std.proofs.Common.{List, ℕ, ◌∙◌, ◌≡◌, ◌++◌, subst, sym, ap, Result, Ok, Err, refl, OnOk, OnErr, IsErr}
-use Rattle.std.proofs.lemmas.Result.{IfOk-from_err, on_err_weaker, err_from_is_err_and}
-use Rattle.vod_design.specs.Vectors.{IsLawful}
+use Rattle.std.proofs.Common.{◌++◌, subst, sym, ap, Result, Ok, Err, refl, OnErr}
 use Rattle.vod_io.specs.declared.Failed.{Failed}
 use Rattle.vod_io.specs.Told.{Written}
 use Rattle.vod_queue.specs.Run.{AreSlots}
@@ -8,7 +6,6 @@ use Rattle.vod_vcd.specs.Text.{header_text}
 use Rattle.vod_vcd.specs.Stream.{window_text}
 use Rattle.vod.specs.Moments.{moments}
 use Rattle.vod.specs.Windows.{request_of}
-use Rattle.vod.specs.Request.{IsWritten, IsBegun}
 use Rattle.vod.proofs.RequestLaws.{WritesRun, window_written, window_begun, window_not_begun}
 use Rattle.vod.proofs.window.write_window.Goals as goal
 
