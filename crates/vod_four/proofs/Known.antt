@@ -1,0 +1,79 @@
+-- Operators on known operands, and on others.
+use Rattle.std.proofs.Common.{◌≡◌, ℕ, ◌+◌, ◌-◌, ◌*◌, ◌^◌, Bool, true, false, ◌&&◌, List, [], ◌∷◌, length, map, replicate, refl, sym, ◌∙◌, ap, ltb, int_lt}
+use Rattle.vod_bits.specs.Bit.{Bit, B0, B1, BX, bit_if}
+use Rattle.vod_bits.specs.Value.{bits_of, number_of, signed_of, upper_bit, all_known, zip_with, shift_left, shift_right}
+use Rattle.vod_four.specs.Four.{four_bit, operand_bit, sum_bits, difference_bits, product_bits, negative_bits, less_bit, less_signed_bit, shift_left_by, shift_right_by, shift_signed_by}
+use Rattle.vod_four.specs.Fields.{one_bit, unk_bit, sure_bit}
+use Rattle.vod_four.proofs.Moves.{shift_left-planes, shift_right-planes, copying-planes, copying}
+
+pub sum-known : (xs ys : List Bit) → (all_known xs && all_known ys) ≡ true → sum_bits xs ys ≡ bits_of (length xs) (number_of xs + number_of ys)
+unfolding sum_bits
+sum-known xs ys k = rw k refl
+
+pub sum-unknown : (xs ys : List Bit) → (all_known xs && all_known ys) ≡ false → sum_bits xs ys ≡ replicate (length xs) BX
+unfolding sum_bits
+sum-unknown xs ys k = rw k refl
+
+pub difference-known : (xs ys : List Bit) → (all_known xs && all_known ys) ≡ true → difference_bits xs ys ≡ bits_of (length xs) (number_of xs + (2 ^ length xs - number_of ys))
+unfolding difference_bits
+difference-known xs ys k = rw k refl
+
+pub difference-unknown : (xs ys : List Bit) → (all_known xs && all_known ys) ≡ false → difference_bits xs ys ≡ replicate (length xs) BX
+unfolding difference_bits
+difference-unknown xs ys k = rw k refl
+
+pub product-known : (xs ys : List Bit) → (all_known xs && all_known ys) ≡ true → product_bits xs ys ≡ bits_of (length xs) (number_of xs * number_of ys)
+unfolding product_bits
+product-known xs ys k = rw k refl
+
+pub product-unknown : (xs ys : List Bit) → (all_known xs && all_known ys) ≡ false → product_bits xs ys ≡ replicate (length xs) BX
+unfolding product_bits
+product-unknown xs ys k = rw k refl
+
+pub negative-known : (xs : List Bit) → all_known xs ≡ true → negative_bits xs ≡ bits_of (length xs) (2 ^ length xs - number_of xs)
+unfolding negative_bits
+negative-known xs k = rw k refl
+
+pub negative-unknown : (xs : List Bit) → all_known xs ≡ false → negative_bits xs ≡ replicate (length xs) BX
+unfolding negative_bits
+negative-unknown xs k = rw k refl
+
+pub less-known : (xs ys : List Bit) → (all_known xs && all_known ys) ≡ true → less_bit xs ys ≡ bit_if (ltb (number_of xs) (number_of ys))
+unfolding less_bit
+less-known xs ys k = rw k refl
+
+pub less-unknown : (xs ys : List Bit) → (all_known xs && all_known ys) ≡ false → less_bit xs ys ≡ BX
+unfolding less_bit
+less-unknown xs ys k = rw k refl
+
+pub less_signed-known : (xs ys : List Bit) → (all_known xs && all_known ys) ≡ true → less_signed_bit xs ys ≡ bit_if (int_lt (signed_of xs) (signed_of ys))
+unfolding less_signed_bit
+less_signed-known xs ys k = rw k refl
+
+pub less_signed-unknown : (xs ys : List Bit) → (all_known xs && all_known ys) ≡ false → less_signed_bit xs ys ≡ BX
+unfolding less_signed_bit
+less_signed-unknown xs ys k = rw k refl
+
+pub shift_left-known : (amount xs : List Bit) → all_known amount ≡ true → shift_left_by amount xs ≡ shift_left (number_of amount) (map operand_bit xs)
+unfolding shift_left_by
+shift_left-known amount xs k = rw k refl
+
+pub shift_left-unknown : (amount xs : List Bit) → all_known amount ≡ false → shift_left_by amount xs ≡ replicate (length xs) BX
+unfolding shift_left_by
+shift_left-unknown amount xs k = rw k refl
+
+pub shift_right-known : (amount xs : List Bit) → all_known amount ≡ true → shift_right_by amount xs ≡ shift_right B0 (number_of amount) (map operand_bit xs)
+unfolding shift_right_by
+shift_right-known amount xs k = rw k refl
+
+pub shift_right-unknown : (amount xs : List Bit) → all_known amount ≡ false → shift_right_by amount xs ≡ replicate (length xs) BX
+unfolding shift_right_by
+shift_right-unknown amount xs k = rw k refl
+
+pub shift_signed-known : (amount xs : List Bit) → all_known amount ≡ true → shift_signed_by amount xs ≡ copying (number_of amount) (map operand_bit xs)
+unfolding shift_signed_by
+shift_signed-known amount xs k = rw k refl
+
+pub shift_signed-unknown : (amount xs : List Bit) → all_known amount ≡ false → shift_signed_by amount xs ≡ replicate (length xs) BX
+unfolding shift_signed_by
+shift_signed-unknown amount xs k = rw k refl
