@@ -1,8 +1,8 @@
 -- Operators on known operands, and on others.
-use Rattle.std.proofs.Common.{◌≡◌, ℕ, ◌+◌, ◌-◌, ◌*◌, ◌^◌, Bool, true, false, ◌&&◌, List, [], ◌∷◌, length, map, replicate, refl, sym, ◌∙◌, ap, ltb, int_lt}
-use Rattle.vod_bits.specs.Bit.{Bit, B0, B1, BX, bit_if}
+use Rattle.std.proofs.Common.{◌≡◌, ℕ, ◌+◌, ◌-◌, ◌*◌, ◌^◌, Bool, true, false, ◌&&◌, List, [], ◌∷◌, length, map, replicate, refl, sym, ◌∙◌, ap, ltb, int_lt, arith, ◌⊎◌, inl, inr}
+use Rattle.vod_bits.specs.Bit.{Bit, B0, B1, BX, BZ, bit_if}
 use Rattle.vod_bits.specs.Value.{bits_of, number_of, signed_of, upper_bit, all_known, zip_with, shift_left, shift_right}
-use Rattle.vod_four.specs.Four.{four_bit, operand_bit, sum_bits, difference_bits, product_bits, negative_bits, less_bit, less_signed_bit, shift_left_by, shift_right_by, shift_signed_by}
+use Rattle.vod_four.specs.Four.{four_bit, operand_bit, sum_bits, difference_bits, product_bits, negative_bits, less_bit, less_signed_bit, any_differ, equal_bit, shift_left_by, shift_right_by, shift_signed_by}
 use Rattle.vod_four.specs.Fields.{one_bit, unk_bit, sure_bit}
 use Rattle.vod_four.proofs.Moves.{shift_left-planes, shift_right-planes, copying-planes, copying}
 
@@ -77,3 +77,51 @@ shift_signed-known amount xs k = rw k refl
 pub shift_signed-unknown : (amount xs : List Bit) → all_known amount ≡ false → shift_signed_by amount xs ≡ replicate (length xs) BX
 unfolding shift_signed_by
 shift_signed-unknown amount xs k = rw k refl
+-- ---- known values
+
+pub operand-known : (xs : List Bit) → all_known xs ≡ true → map operand_bit xs ≡ xs
+operand-known [] k = refl
+operand-known (B0 ∷ xs) k = ap (λ bs. B0 ∷ bs) (operand-known xs k)
+operand-known (B1 ∷ xs) k = ap (λ bs. B1 ∷ bs) (operand-known xs k)
+operand-known (BX ∷ xs) k = cc
+operand-known (BZ ∷ xs) k = cc
+
+differ-self : (xs : List Bit) → any_differ xs xs ≡ false
+unfolding any_differ
+differ-self [] = refl
+differ-self (B0 ∷ xs) = differ-self xs
+differ-self (B1 ∷ xs) = differ-self xs
+differ-self (BX ∷ xs) = differ-self xs
+differ-self (BZ ∷ xs) = differ-self xs
+
+pub equal-self : (xs : List Bit) → all_known xs ≡ true → equal_bit xs xs ≡ B1
+unfolding equal_bit
+equal-self xs k = rw (differ-self xs, k) refl
+
+-- two known values differ somewhere or are the same
+differ-or : (xs ys : List Bit) → all_known xs ≡ true → all_known ys ≡ true → length xs ≡ length ys → (any_differ xs ys ≡ true) ⊎ (xs ≡ ys)
+unfolding any_differ
+differ-or [] [] k l e = inr refl
+differ-or [] (y ∷ ys) k l e = absurd (omega arith)
+differ-or (x ∷ xs) [] k l e = absurd (omega arith)
+differ-or (B0 ∷ xs) (B1 ∷ ys) k l e = inl refl
+differ-or (B1 ∷ xs) (B0 ∷ ys) k l e = inl refl
+differ-or (B0 ∷ xs) (B0 ∷ ys) k l e =
+    let same : length xs ≡ length ys = omega arith in
+    elim (differ-or xs ys k l same) [ inl d ↦ inl d | inr s ↦ inr (ap (λ bs. B0 ∷ bs) s) ]
+differ-or (B1 ∷ xs) (B1 ∷ ys) k l e =
+    let same : length xs ≡ length ys = omega arith in
+    elim (differ-or xs ys k l same) [ inl d ↦ inl d | inr s ↦ inr (ap (λ bs. B1 ∷ bs) s) ]
+differ-or (BX ∷ xs) (y ∷ ys) k l e = cc
+differ-or (BZ ∷ xs) (y ∷ ys) k l e = cc
+differ-or (B0 ∷ xs) (BX ∷ ys) k l e = cc
+differ-or (B0 ∷ xs) (BZ ∷ ys) k l e = cc
+differ-or (B1 ∷ xs) (BX ∷ ys) k l e = cc
+differ-or (B1 ∷ xs) (BZ ∷ ys) k l e = cc
+
+pub equal-other : (xs ys : List Bit) → all_known xs ≡ true → all_known ys ≡ true → length xs ≡ length ys → (xs ≡ ys → ⊥) → equal_bit xs ys ≡ B0
+unfolding equal_bit
+equal-other xs ys k l e n = elim (differ-or xs ys k l e) [ inl d ↦ rw d refl | inr s ↦ absurd (n s) ]
+
+pub both-known : (xs ys : List Bit) → all_known xs ≡ true → all_known ys ≡ true → (all_known xs && all_known ys) ≡ true
+both-known xs ys k l = rw (k, l) refl

@@ -1,6 +1,10 @@
 //! Values of Verilog: 1 to `WIDTH` bits, each 0, 1, x or z, and the operators on them.
 #![tactic(auto)]
 
+mod law;
+
+pub use law::{agree_on_pairs, agree_on_shifts};
+
 ghost use Rattle.std.specs.Prelude.{◌≡◌, ◌+◌, ◌≤◌, ◌&&◌, if◌then◌else◌, ◌∷◌, [], ◌++◌, ◌↔◌, IsTrue, true, false, length, map, replicate, MatchOption};
 ghost use Rattle.vod_bits.specs.Bit.{B0, B1, BX, is_1, bit_if, not_bit, and_bit, or_bit, xor_bit};
 ghost use Rattle.vod_bits.specs.Value.{number_of, all_known, zip_with, fold_bits, resize_bits, slice_bits};
@@ -445,3 +449,6 @@ impl Four {
         }
     }
 }
+
+#[cfg(test)]
+mod tests;
