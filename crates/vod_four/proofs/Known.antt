@@ -77,6 +77,7 @@ shift_signed-known amount xs k = rw k refl
 pub shift_signed-unknown : (amount xs : List Bit) → all_known amount ≡ false → shift_signed_by amount xs ≡ replicate (length xs) BX
 unfolding shift_signed_by
 shift_signed-unknown amount xs k = rw k refl
+
 -- ---- known values
 
 pub operand-known : (xs : List Bit) → all_known xs ≡ true → map operand_bit xs ≡ xs

@@ -7,9 +7,8 @@ ghost use Rattle.vod_bits.specs.Bit.{B0, B1, bit_if};
 ghost use Rattle.vod_bits.specs.Value.{bits_of, number_of, signed_of, upper_bit, all_known, shift_left, shift_right};
 ghost use Rattle.vod_four.specs.Four.{sum_bits, difference_bits, product_bits, negative_bits, less_bit, less_signed_bit, equal_bit, shift_left_by, shift_right_by, shift_signed_by};
 
-use vod_bits::Bits;
-
 use crate::Four;
+use vod_bits::Bits;
 
 /// The operators on two known values of one width.
 pub fn agree_on_pairs(a: Bits, b: Bits)

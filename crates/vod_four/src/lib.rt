@@ -3,14 +3,13 @@
 
 mod law;
 
-pub use law::{agree_on_pairs, agree_on_shifts};
-
 ghost use Rattle.std.specs.Prelude.{◌≡◌, ◌+◌, ◌≤◌, ◌&&◌, if◌then◌else◌, ◌∷◌, [], ◌++◌, ◌↔◌, IsTrue, true, false, length, map, replicate, MatchOption};
 ghost use Rattle.vod_bits.specs.Bit.{B0, B1, BX, is_1, bit_if, not_bit, and_bit, or_bit, xor_bit};
 ghost use Rattle.vod_bits.specs.Value.{number_of, all_known, zip_with, fold_bits, resize_bits, slice_bits};
 ghost use Rattle.vod_four.specs.Four.{four_bit, sum_bits, difference_bits, product_bits, negative_bits, less_bit, less_signed_bit, equal_bit, truth_bit, shift_left_by, shift_right_by, shift_signed_by, merge_bit, choose_bits};
 ghost use Rattle.vod_four.specs.Fields.{one_bit, unk_bit, sure_bit, possible_bit, bounded_bit};
 
+pub use law::{agree_on_pairs, agree_on_shifts};
 use std::marker::Model;
 use vod_bits::{Bits, WIDTH, Word};
 

@@ -6,6 +6,10 @@ ghost use Rattle.std.specs.Prelude.{◌≡◌, ◌<◌, ◌≤◌, ◌^◌, leng
 
 use super::*;
 
+mod tables;
+
+use tables::*;
+
 // The operators of the tables.
 #[derive(Clone, Copy)]
 enum Operator {
@@ -137,488 +141,6 @@ fn table_holds(operator: Operator, width: u8, rows: &[&str]) -> bool
     true
 }
 
-const AND_1: [&str; 4] = [
-    "0 0 0 0",
-    "0 1 x x",
-    "0 x x x",
-    "0 x x x",
-];
-
-const OR_1: [&str; 4] = [
-    "0 1 x x",
-    "1 1 1 1",
-    "x 1 x x",
-    "x 1 x x",
-];
-
-const XOR_1: [&str; 4] = [
-    "0 1 x x",
-    "1 0 x x",
-    "x x x x",
-    "x x x x",
-];
-
-const ADD_1: [&str; 4] = [
-    "0 1 x x",
-    "1 0 x x",
-    "x x x x",
-    "x x x x",
-];
-
-const SUB_1: [&str; 4] = [
-    "0 1 x x",
-    "1 0 x x",
-    "x x x x",
-    "x x x x",
-];
-
-const MUL_1: [&str; 4] = [
-    "0 0 x x",
-    "0 1 x x",
-    "x x x x",
-    "x x x x",
-];
-
-const EQ_1: [&str; 4] = [
-    "1 0 x x",
-    "0 1 x x",
-    "x x x x",
-    "x x x x",
-];
-
-const LT_1: [&str; 4] = [
-    "0 1 x x",
-    "0 0 x x",
-    "x x x x",
-    "x x x x",
-];
-
-const LT_SIGNED_1: [&str; 4] = [
-    "0 0 x x",
-    "1 0 x x",
-    "x x x x",
-    "x x x x",
-];
-
-const CASE_EQ_1: [&str; 4] = [
-    "1 0 0 0",
-    "0 1 0 0",
-    "0 0 1 0",
-    "0 0 0 1",
-];
-
-const LOGIC_AND_1: [&str; 4] = [
-    "0 0 0 0",
-    "0 1 x x",
-    "0 x x x",
-    "0 x x x",
-];
-
-const LOGIC_OR_1: [&str; 4] = [
-    "0 1 x x",
-    "1 1 1 1",
-    "x 1 x x",
-    "x 1 x x",
-];
-
-const SHL_1: [&str; 4] = [
-    "0 0 x x",
-    "1 0 x x",
-    "x 0 x x",
-    "x 0 x x",
-];
-
-const SHR_1: [&str; 4] = [
-    "0 0 x x",
-    "1 0 x x",
-    "x 0 x x",
-    "x 0 x x",
-];
-
-const SAR_1: [&str; 4] = [
-    "0 0 x x",
-    "1 1 x x",
-    "x x x x",
-    "x x x x",
-];
-
-const CHOOSE_1: [&str; 4] = [
-    "0 0 0 0",
-    "0 1 x z",
-    "x x x x",
-    "x x x x",
-];
-
-const MERGE_1: [&str; 4] = [
-    "0 x x x",
-    "x 1 x x",
-    "x x x x",
-    "x x x x",
-];
-
-const NOT_1: [&str; 1] = ["1 0 x x"];
-
-const NEG_1: [&str; 1] = ["0 1 x x"];
-
-const ALL_1: [&str; 1] = ["0 1 x x"];
-
-const ANY_1: [&str; 1] = ["0 1 x x"];
-
-const PARITY_1: [&str; 1] = ["0 1 x x"];
-
-const LOGIC_NOT_1: [&str; 1] = ["1 0 x x"];
-
-const WIDEN_1: [&str; 1] = ["0000 0001 000x 000z"];
-
-const WIDEN_SIGNED_1: [&str; 1] = ["0000 1111 xxxx zzzz"];
-
-const LOWER_1: [&str; 1] = ["0 1 x z"];
-
-const JOIN_1: [&str; 1] = ["00 11 xx zz"];
-
-const AND_2: [&str; 16] = [
-    "00 00 00 00 00 00 00 00 00 00 00 00 00 00 00 00",
-    "00 01 0x 0x 00 01 0x 0x 00 01 0x 0x 00 01 0x 0x",
-    "00 0x 0x 0x 00 0x 0x 0x 00 0x 0x 0x 00 0x 0x 0x",
-    "00 0x 0x 0x 00 0x 0x 0x 00 0x 0x 0x 00 0x 0x 0x",
-    "00 00 00 00 10 10 10 10 x0 x0 x0 x0 x0 x0 x0 x0",
-    "00 01 0x 0x 10 11 1x 1x x0 x1 xx xx x0 x1 xx xx",
-    "00 0x 0x 0x 10 1x 1x 1x x0 xx xx xx x0 xx xx xx",
-    "00 0x 0x 0x 10 1x 1x 1x x0 xx xx xx x0 xx xx xx",
-    "00 00 00 00 x0 x0 x0 x0 x0 x0 x0 x0 x0 x0 x0 x0",
-    "00 01 0x 0x x0 x1 xx xx x0 x1 xx xx x0 x1 xx xx",
-    "00 0x 0x 0x x0 xx xx xx x0 xx xx xx x0 xx xx xx",
-    "00 0x 0x 0x x0 xx xx xx x0 xx xx xx x0 xx xx xx",
-    "00 00 00 00 x0 x0 x0 x0 x0 x0 x0 x0 x0 x0 x0 x0",
-    "00 01 0x 0x x0 x1 xx xx x0 x1 xx xx x0 x1 xx xx",
-    "00 0x 0x 0x x0 xx xx xx x0 xx xx xx x0 xx xx xx",
-    "00 0x 0x 0x x0 xx xx xx x0 xx xx xx x0 xx xx xx",
-];
-
-const OR_2: [&str; 16] = [
-    "00 01 0x 0x 10 11 1x 1x x0 x1 xx xx x0 x1 xx xx",
-    "01 01 01 01 11 11 11 11 x1 x1 x1 x1 x1 x1 x1 x1",
-    "0x 01 0x 0x 1x 11 1x 1x xx x1 xx xx xx x1 xx xx",
-    "0x 01 0x 0x 1x 11 1x 1x xx x1 xx xx xx x1 xx xx",
-    "10 11 1x 1x 10 11 1x 1x 10 11 1x 1x 10 11 1x 1x",
-    "11 11 11 11 11 11 11 11 11 11 11 11 11 11 11 11",
-    "1x 11 1x 1x 1x 11 1x 1x 1x 11 1x 1x 1x 11 1x 1x",
-    "1x 11 1x 1x 1x 11 1x 1x 1x 11 1x 1x 1x 11 1x 1x",
-    "x0 x1 xx xx 10 11 1x 1x x0 x1 xx xx x0 x1 xx xx",
-    "x1 x1 x1 x1 11 11 11 11 x1 x1 x1 x1 x1 x1 x1 x1",
-    "xx x1 xx xx 1x 11 1x 1x xx x1 xx xx xx x1 xx xx",
-    "xx x1 xx xx 1x 11 1x 1x xx x1 xx xx xx x1 xx xx",
-    "x0 x1 xx xx 10 11 1x 1x x0 x1 xx xx x0 x1 xx xx",
-    "x1 x1 x1 x1 11 11 11 11 x1 x1 x1 x1 x1 x1 x1 x1",
-    "xx x1 xx xx 1x 11 1x 1x xx x1 xx xx xx x1 xx xx",
-    "xx x1 xx xx 1x 11 1x 1x xx x1 xx xx xx x1 xx xx",
-];
-
-const XOR_2: [&str; 16] = [
-    "00 01 0x 0x 10 11 1x 1x x0 x1 xx xx x0 x1 xx xx",
-    "01 00 0x 0x 11 10 1x 1x x1 x0 xx xx x1 x0 xx xx",
-    "0x 0x 0x 0x 1x 1x 1x 1x xx xx xx xx xx xx xx xx",
-    "0x 0x 0x 0x 1x 1x 1x 1x xx xx xx xx xx xx xx xx",
-    "10 11 1x 1x 00 01 0x 0x x0 x1 xx xx x0 x1 xx xx",
-    "11 10 1x 1x 01 00 0x 0x x1 x0 xx xx x1 x0 xx xx",
-    "1x 1x 1x 1x 0x 0x 0x 0x xx xx xx xx xx xx xx xx",
-    "1x 1x 1x 1x 0x 0x 0x 0x xx xx xx xx xx xx xx xx",
-    "x0 x1 xx xx x0 x1 xx xx x0 x1 xx xx x0 x1 xx xx",
-    "x1 x0 xx xx x1 x0 xx xx x1 x0 xx xx x1 x0 xx xx",
-    "xx xx xx xx xx xx xx xx xx xx xx xx xx xx xx xx",
-    "xx xx xx xx xx xx xx xx xx xx xx xx xx xx xx xx",
-    "x0 x1 xx xx x0 x1 xx xx x0 x1 xx xx x0 x1 xx xx",
-    "x1 x0 xx xx x1 x0 xx xx x1 x0 xx xx x1 x0 xx xx",
-    "xx xx xx xx xx xx xx xx xx xx xx xx xx xx xx xx",
-    "xx xx xx xx xx xx xx xx xx xx xx xx xx xx xx xx",
-];
-
-const ADD_2: [&str; 16] = [
-    "00 01 xx xx 10 11 xx xx xx xx xx xx xx xx xx xx",
-    "01 10 xx xx 11 00 xx xx xx xx xx xx xx xx xx xx",
-    "xx xx xx xx xx xx xx xx xx xx xx xx xx xx xx xx",
-    "xx xx xx xx xx xx xx xx xx xx xx xx xx xx xx xx",
-    "10 11 xx xx 00 01 xx xx xx xx xx xx xx xx xx xx",
-    "11 00 xx xx 01 10 xx xx xx xx xx xx xx xx xx xx",
-    "xx xx xx xx xx xx xx xx xx xx xx xx xx xx xx xx",
-    "xx xx xx xx xx xx xx xx xx xx xx xx xx xx xx xx",
-    "xx xx xx xx xx xx xx xx xx xx xx xx xx xx xx xx",
-    "xx xx xx xx xx xx xx xx xx xx xx xx xx xx xx xx",
-    "xx xx xx xx xx xx xx xx xx xx xx xx xx xx xx xx",
-    "xx xx xx xx xx xx xx xx xx xx xx xx xx xx xx xx",
-    "xx xx xx xx xx xx xx xx xx xx xx xx xx xx xx xx",
-    "xx xx xx xx xx xx xx xx xx xx xx xx xx xx xx xx",
-    "xx xx xx xx xx xx xx xx xx xx xx xx xx xx xx xx",
-    "xx xx xx xx xx xx xx xx xx xx xx xx xx xx xx xx",
-];
-
-const SUB_2: [&str; 16] = [
-    "00 11 xx xx 10 01 xx xx xx xx xx xx xx xx xx xx",
-    "01 00 xx xx 11 10 xx xx xx xx xx xx xx xx xx xx",
-    "xx xx xx xx xx xx xx xx xx xx xx xx xx xx xx xx",
-    "xx xx xx xx xx xx xx xx xx xx xx xx xx xx xx xx",
-    "10 01 xx xx 00 11 xx xx xx xx xx xx xx xx xx xx",
-    "11 10 xx xx 01 00 xx xx xx xx xx xx xx xx xx xx",
-    "xx xx xx xx xx xx xx xx xx xx xx xx xx xx xx xx",
-    "xx xx xx xx xx xx xx xx xx xx xx xx xx xx xx xx",
-    "xx xx xx xx xx xx xx xx xx xx xx xx xx xx xx xx",
-    "xx xx xx xx xx xx xx xx xx xx xx xx xx xx xx xx",
-    "xx xx xx xx xx xx xx xx xx xx xx xx xx xx xx xx",
-    "xx xx xx xx xx xx xx xx xx xx xx xx xx xx xx xx",
-    "xx xx xx xx xx xx xx xx xx xx xx xx xx xx xx xx",
-    "xx xx xx xx xx xx xx xx xx xx xx xx xx xx xx xx",
-    "xx xx xx xx xx xx xx xx xx xx xx xx xx xx xx xx",
-    "xx xx xx xx xx xx xx xx xx xx xx xx xx xx xx xx",
-];
-
-const MUL_2: [&str; 16] = [
-    "00 00 xx xx 00 00 xx xx xx xx xx xx xx xx xx xx",
-    "00 01 xx xx 10 11 xx xx xx xx xx xx xx xx xx xx",
-    "xx xx xx xx xx xx xx xx xx xx xx xx xx xx xx xx",
-    "xx xx xx xx xx xx xx xx xx xx xx xx xx xx xx xx",
-    "00 10 xx xx 00 10 xx xx xx xx xx xx xx xx xx xx",
-    "00 11 xx xx 10 01 xx xx xx xx xx xx xx xx xx xx",
-    "xx xx xx xx xx xx xx xx xx xx xx xx xx xx xx xx",
-    "xx xx xx xx xx xx xx xx xx xx xx xx xx xx xx xx",
-    "xx xx xx xx xx xx xx xx xx xx xx xx xx xx xx xx",
-    "xx xx xx xx xx xx xx xx xx xx xx xx xx xx xx xx",
-    "xx xx xx xx xx xx xx xx xx xx xx xx xx xx xx xx",
-    "xx xx xx xx xx xx xx xx xx xx xx xx xx xx xx xx",
-    "xx xx xx xx xx xx xx xx xx xx xx xx xx xx xx xx",
-    "xx xx xx xx xx xx xx xx xx xx xx xx xx xx xx xx",
-    "xx xx xx xx xx xx xx xx xx xx xx xx xx xx xx xx",
-    "xx xx xx xx xx xx xx xx xx xx xx xx xx xx xx xx",
-];
-
-const EQ_2: [&str; 16] = [
-    "1 0 x x 0 0 0 0 x 0 x x x 0 x x",
-    "0 1 x x 0 0 0 0 0 x x x 0 x x x",
-    "x x x x 0 0 0 0 x x x x x x x x",
-    "x x x x 0 0 0 0 x x x x x x x x",
-    "0 0 0 0 1 0 x x x 0 x x x 0 x x",
-    "0 0 0 0 0 1 x x 0 x x x 0 x x x",
-    "0 0 0 0 x x x x x x x x x x x x",
-    "0 0 0 0 x x x x x x x x x x x x",
-    "x 0 x x x 0 x x x 0 x x x 0 x x",
-    "0 x x x 0 x x x 0 x x x 0 x x x",
-    "x x x x x x x x x x x x x x x x",
-    "x x x x x x x x x x x x x x x x",
-    "x 0 x x x 0 x x x 0 x x x 0 x x",
-    "0 x x x 0 x x x 0 x x x 0 x x x",
-    "x x x x x x x x x x x x x x x x",
-    "x x x x x x x x x x x x x x x x",
-];
-
-const LT_2: [&str; 16] = [
-    "0 1 x x 1 1 x x x x x x x x x x",
-    "0 0 x x 1 1 x x x x x x x x x x",
-    "x x x x x x x x x x x x x x x x",
-    "x x x x x x x x x x x x x x x x",
-    "0 0 x x 0 1 x x x x x x x x x x",
-    "0 0 x x 0 0 x x x x x x x x x x",
-    "x x x x x x x x x x x x x x x x",
-    "x x x x x x x x x x x x x x x x",
-    "x x x x x x x x x x x x x x x x",
-    "x x x x x x x x x x x x x x x x",
-    "x x x x x x x x x x x x x x x x",
-    "x x x x x x x x x x x x x x x x",
-    "x x x x x x x x x x x x x x x x",
-    "x x x x x x x x x x x x x x x x",
-    "x x x x x x x x x x x x x x x x",
-    "x x x x x x x x x x x x x x x x",
-];
-
-const LT_SIGNED_2: [&str; 16] = [
-    "0 1 x x 0 0 x x x x x x x x x x",
-    "0 0 x x 0 0 x x x x x x x x x x",
-    "x x x x x x x x x x x x x x x x",
-    "x x x x x x x x x x x x x x x x",
-    "1 1 x x 0 1 x x x x x x x x x x",
-    "1 1 x x 0 0 x x x x x x x x x x",
-    "x x x x x x x x x x x x x x x x",
-    "x x x x x x x x x x x x x x x x",
-    "x x x x x x x x x x x x x x x x",
-    "x x x x x x x x x x x x x x x x",
-    "x x x x x x x x x x x x x x x x",
-    "x x x x x x x x x x x x x x x x",
-    "x x x x x x x x x x x x x x x x",
-    "x x x x x x x x x x x x x x x x",
-    "x x x x x x x x x x x x x x x x",
-    "x x x x x x x x x x x x x x x x",
-];
-
-const CASE_EQ_2: [&str; 16] = [
-    "1 0 0 0 0 0 0 0 0 0 0 0 0 0 0 0",
-    "0 1 0 0 0 0 0 0 0 0 0 0 0 0 0 0",
-    "0 0 1 0 0 0 0 0 0 0 0 0 0 0 0 0",
-    "0 0 0 1 0 0 0 0 0 0 0 0 0 0 0 0",
-    "0 0 0 0 1 0 0 0 0 0 0 0 0 0 0 0",
-    "0 0 0 0 0 1 0 0 0 0 0 0 0 0 0 0",
-    "0 0 0 0 0 0 1 0 0 0 0 0 0 0 0 0",
-    "0 0 0 0 0 0 0 1 0 0 0 0 0 0 0 0",
-    "0 0 0 0 0 0 0 0 1 0 0 0 0 0 0 0",
-    "0 0 0 0 0 0 0 0 0 1 0 0 0 0 0 0",
-    "0 0 0 0 0 0 0 0 0 0 1 0 0 0 0 0",
-    "0 0 0 0 0 0 0 0 0 0 0 1 0 0 0 0",
-    "0 0 0 0 0 0 0 0 0 0 0 0 1 0 0 0",
-    "0 0 0 0 0 0 0 0 0 0 0 0 0 1 0 0",
-    "0 0 0 0 0 0 0 0 0 0 0 0 0 0 1 0",
-    "0 0 0 0 0 0 0 0 0 0 0 0 0 0 0 1",
-];
-
-const LOGIC_AND_2: [&str; 16] = [
-    "0 0 0 0 0 0 0 0 0 0 0 0 0 0 0 0",
-    "0 1 x x 1 1 1 1 x 1 x x x 1 x x",
-    "0 x x x x x x x x x x x x x x x",
-    "0 x x x x x x x x x x x x x x x",
-    "0 1 x x 1 1 1 1 x 1 x x x 1 x x",
-    "0 1 x x 1 1 1 1 x 1 x x x 1 x x",
-    "0 1 x x 1 1 1 1 x 1 x x x 1 x x",
-    "0 1 x x 1 1 1 1 x 1 x x x 1 x x",
-    "0 x x x x x x x x x x x x x x x",
-    "0 1 x x 1 1 1 1 x 1 x x x 1 x x",
-    "0 x x x x x x x x x x x x x x x",
-    "0 x x x x x x x x x x x x x x x",
-    "0 x x x x x x x x x x x x x x x",
-    "0 1 x x 1 1 1 1 x 1 x x x 1 x x",
-    "0 x x x x x x x x x x x x x x x",
-    "0 x x x x x x x x x x x x x x x",
-];
-
-const LOGIC_OR_2: [&str; 16] = [
-    "0 1 x x 1 1 1 1 x 1 x x x 1 x x",
-    "1 1 1 1 1 1 1 1 1 1 1 1 1 1 1 1",
-    "x 1 x x 1 1 1 1 x 1 x x x 1 x x",
-    "x 1 x x 1 1 1 1 x 1 x x x 1 x x",
-    "1 1 1 1 1 1 1 1 1 1 1 1 1 1 1 1",
-    "1 1 1 1 1 1 1 1 1 1 1 1 1 1 1 1",
-    "1 1 1 1 1 1 1 1 1 1 1 1 1 1 1 1",
-    "1 1 1 1 1 1 1 1 1 1 1 1 1 1 1 1",
-    "x 1 x x 1 1 1 1 x 1 x x x 1 x x",
-    "1 1 1 1 1 1 1 1 1 1 1 1 1 1 1 1",
-    "x 1 x x 1 1 1 1 x 1 x x x 1 x x",
-    "x 1 x x 1 1 1 1 x 1 x x x 1 x x",
-    "x 1 x x 1 1 1 1 x 1 x x x 1 x x",
-    "1 1 1 1 1 1 1 1 1 1 1 1 1 1 1 1",
-    "x 1 x x 1 1 1 1 x 1 x x x 1 x x",
-    "x 1 x x 1 1 1 1 x 1 x x x 1 x x",
-];
-
-const SHL_2: [&str; 16] = [
-    "00 00 xx xx 00 00 xx xx xx xx xx xx xx xx xx xx",
-    "01 10 xx xx 00 00 xx xx xx xx xx xx xx xx xx xx",
-    "0x x0 xx xx 00 00 xx xx xx xx xx xx xx xx xx xx",
-    "0x x0 xx xx 00 00 xx xx xx xx xx xx xx xx xx xx",
-    "10 00 xx xx 00 00 xx xx xx xx xx xx xx xx xx xx",
-    "11 10 xx xx 00 00 xx xx xx xx xx xx xx xx xx xx",
-    "1x x0 xx xx 00 00 xx xx xx xx xx xx xx xx xx xx",
-    "1x x0 xx xx 00 00 xx xx xx xx xx xx xx xx xx xx",
-    "x0 00 xx xx 00 00 xx xx xx xx xx xx xx xx xx xx",
-    "x1 10 xx xx 00 00 xx xx xx xx xx xx xx xx xx xx",
-    "xx x0 xx xx 00 00 xx xx xx xx xx xx xx xx xx xx",
-    "xx x0 xx xx 00 00 xx xx xx xx xx xx xx xx xx xx",
-    "x0 00 xx xx 00 00 xx xx xx xx xx xx xx xx xx xx",
-    "x1 10 xx xx 00 00 xx xx xx xx xx xx xx xx xx xx",
-    "xx x0 xx xx 00 00 xx xx xx xx xx xx xx xx xx xx",
-    "xx x0 xx xx 00 00 xx xx xx xx xx xx xx xx xx xx",
-];
-
-const SHR_2: [&str; 16] = [
-    "00 00 xx xx 00 00 xx xx xx xx xx xx xx xx xx xx",
-    "01 00 xx xx 00 00 xx xx xx xx xx xx xx xx xx xx",
-    "0x 00 xx xx 00 00 xx xx xx xx xx xx xx xx xx xx",
-    "0x 00 xx xx 00 00 xx xx xx xx xx xx xx xx xx xx",
-    "10 01 xx xx 00 00 xx xx xx xx xx xx xx xx xx xx",
-    "11 01 xx xx 00 00 xx xx xx xx xx xx xx xx xx xx",
-    "1x 01 xx xx 00 00 xx xx xx xx xx xx xx xx xx xx",
-    "1x 01 xx xx 00 00 xx xx xx xx xx xx xx xx xx xx",
-    "x0 0x xx xx 00 00 xx xx xx xx xx xx xx xx xx xx",
-    "x1 0x xx xx 00 00 xx xx xx xx xx xx xx xx xx xx",
-    "xx 0x xx xx 00 00 xx xx xx xx xx xx xx xx xx xx",
-    "xx 0x xx xx 00 00 xx xx xx xx xx xx xx xx xx xx",
-    "x0 0x xx xx 00 00 xx xx xx xx xx xx xx xx xx xx",
-    "x1 0x xx xx 00 00 xx xx xx xx xx xx xx xx xx xx",
-    "xx 0x xx xx 00 00 xx xx xx xx xx xx xx xx xx xx",
-    "xx 0x xx xx 00 00 xx xx xx xx xx xx xx xx xx xx",
-];
-
-const SAR_2: [&str; 16] = [
-    "00 00 xx xx 00 00 xx xx xx xx xx xx xx xx xx xx",
-    "01 00 xx xx 00 00 xx xx xx xx xx xx xx xx xx xx",
-    "0x 00 xx xx 00 00 xx xx xx xx xx xx xx xx xx xx",
-    "0x 00 xx xx 00 00 xx xx xx xx xx xx xx xx xx xx",
-    "10 11 xx xx 11 11 xx xx xx xx xx xx xx xx xx xx",
-    "11 11 xx xx 11 11 xx xx xx xx xx xx xx xx xx xx",
-    "1x 11 xx xx 11 11 xx xx xx xx xx xx xx xx xx xx",
-    "1x 11 xx xx 11 11 xx xx xx xx xx xx xx xx xx xx",
-    "x0 xx xx xx xx xx xx xx xx xx xx xx xx xx xx xx",
-    "x1 xx xx xx xx xx xx xx xx xx xx xx xx xx xx xx",
-    "xx xx xx xx xx xx xx xx xx xx xx xx xx xx xx xx",
-    "xx xx xx xx xx xx xx xx xx xx xx xx xx xx xx xx",
-    "x0 xx xx xx xx xx xx xx xx xx xx xx xx xx xx xx",
-    "x1 xx xx xx xx xx xx xx xx xx xx xx xx xx xx xx",
-    "xx xx xx xx xx xx xx xx xx xx xx xx xx xx xx xx",
-    "xx xx xx xx xx xx xx xx xx xx xx xx xx xx xx xx",
-];
-
-const CHOOSE_2: [&str; 16] = [
-    "00 00 00 00 00 00 00 00 00 00 00 00 00 00 00 00",
-    "00 01 0x 0z 10 11 1x 1z x0 x1 xx xz z0 z1 zx zz",
-    "0x 0x 0x 0x xx xx xx xx xx xx xx xx xx xx xx xx",
-    "0x 0x 0x 0x xx xx xx xx xx xx xx xx xx xx xx xx",
-    "00 01 0x 0z 10 11 1x 1z x0 x1 xx xz z0 z1 zx zz",
-    "00 01 0x 0z 10 11 1x 1z x0 x1 xx xz z0 z1 zx zz",
-    "00 01 0x 0z 10 11 1x 1z x0 x1 xx xz z0 z1 zx zz",
-    "00 01 0x 0z 10 11 1x 1z x0 x1 xx xz z0 z1 zx zz",
-    "x0 xx xx xx x0 xx xx xx x0 xx xx xx x0 xx xx xx",
-    "00 01 0x 0z 10 11 1x 1z x0 x1 xx xz z0 z1 zx zz",
-    "xx xx xx xx xx xx xx xx xx xx xx xx xx xx xx xx",
-    "xx xx xx xx xx xx xx xx xx xx xx xx xx xx xx xx",
-    "x0 xx xx xx x0 xx xx xx x0 xx xx xx x0 xx xx xx",
-    "00 01 0x 0z 10 11 1x 1z x0 x1 xx xz z0 z1 zx zz",
-    "xx xx xx xx xx xx xx xx xx xx xx xx xx xx xx xx",
-    "xx xx xx xx xx xx xx xx xx xx xx xx xx xx xx xx",
-];
-
-const MERGE_2: [&str; 16] = [
-    "00 0x 0x 0x x0 xx xx xx x0 xx xx xx x0 xx xx xx",
-    "0x 01 0x 0x xx x1 xx xx xx x1 xx xx xx x1 xx xx",
-    "0x 0x 0x 0x xx xx xx xx xx xx xx xx xx xx xx xx",
-    "0x 0x 0x 0x xx xx xx xx xx xx xx xx xx xx xx xx",
-    "x0 xx xx xx 10 1x 1x 1x x0 xx xx xx x0 xx xx xx",
-    "xx x1 xx xx 1x 11 1x 1x xx x1 xx xx xx x1 xx xx",
-    "xx xx xx xx 1x 1x 1x 1x xx xx xx xx xx xx xx xx",
-    "xx xx xx xx 1x 1x 1x 1x xx xx xx xx xx xx xx xx",
-    "x0 xx xx xx x0 xx xx xx x0 xx xx xx x0 xx xx xx",
-    "xx x1 xx xx xx x1 xx xx xx x1 xx xx xx x1 xx xx",
-    "xx xx xx xx xx xx xx xx xx xx xx xx xx xx xx xx",
-    "xx xx xx xx xx xx xx xx xx xx xx xx xx xx xx xx",
-    "x0 xx xx xx x0 xx xx xx x0 xx xx xx x0 xx xx xx",
-    "xx x1 xx xx xx x1 xx xx xx x1 xx xx xx x1 xx xx",
-    "xx xx xx xx xx xx xx xx xx xx xx xx xx xx xx xx",
-    "xx xx xx xx xx xx xx xx xx xx xx xx xx xx xx xx",
-];
-
-const NOT_2: [&str; 1] = ["11 10 1x 1x 01 00 0x 0x x1 x0 xx xx x1 x0 xx xx"];
-
-const NEG_2: [&str; 1] = ["00 11 xx xx 10 01 xx xx xx xx xx xx xx xx xx xx"];
-
-const ALL_2: [&str; 1] = ["0 0 0 0 0 1 x x 0 x x x 0 x x x"];
-
-const ANY_2: [&str; 1] = ["0 1 x x 1 1 1 1 x 1 x x x 1 x x"];
-
-const PARITY_2: [&str; 1] = ["0 1 x x 1 0 x x x x x x x x x x"];
-
-const LOGIC_NOT_2: [&str; 1] = ["1 0 x x 0 0 0 0 x 0 x x x 0 x x"];
-
-const WIDEN_2: [&str; 1] = ["0000 0001 000x 000z 0010 0011 001x 001z 00x0 00x1 00xx 00xz 00z0 00z1 00zx 00zz"];
-
-const WIDEN_SIGNED_2: [&str; 1] = ["0000 0001 000x 000z 1110 1111 111x 111z xxx0 xxx1 xxxx xxxz zzz0 zzz1 zzzx zzzz"];
-
-const LOWER_2: [&str; 1] = ["0 1 x z 0 1 x z 0 1 x z 0 1 x z"];
-
-const JOIN_2: [&str; 1] = ["0000 0101 0x0x 0z0z 1010 1111 1x1x 1z1z x0x0 x1x1 xxxx xzxz z0z0 z1z1 zxzx zzzz"];
-
 #[test]
 fn bitwise_of_one_bit(rt: HostRuntime) {
     assert!(rt; table_holds(Operator::And, 1, &AND_1));
@@ -729,6 +251,15 @@ fn sizes_and_parts_of_two_bits(rt: HostRuntime) {
     assert!(rt; table_holds(Operator::Join, 2, &JOIN_2));
 }
 
+// Whether `<<`, `>>` and `>>>` give these texts.
+fn shifts_spell(value: Four, amount: Four, texts: [&str; 3]) -> bool {
+    let [left, right, signed] = texts;
+    spells(value.shl(amount), left)
+        && spells(value.shr(amount), right)
+        && spells(value.sar(amount), signed)
+}
+
+// The value with these words.
 #[tactic(auto, using(crate::specs::Fields::four_width))]
 fn four(width: u8, ones: Word, unks: Word) -> Four
     requires some { 1 ≤ width }
@@ -737,32 +268,107 @@ fn four(width: u8, ones: Word, unks: Word) -> Four
     requires unks { unks < 2 ^ width }
     ensures { length result ≡ width }
 {
-    Four {
-        width,
-        ones,
-        unks,
-    }
+    Four { width, ones, unks }
 }
 
 #[test]
 fn bits_of_63(rt: HostRuntime) {
-    assert!(rt; spells(four(63, 0xffff0000ffff, 0xffffffff).and(four(63, 0x5555555555555555, 0x3333333333333333)), "00000000000000001xx01xx01xx01xx0xxx0xxx0xxx0xxx0xxx0xxx0xxx0xxx"));
-    assert!(rt; spells(four(63, 0xffff0000ffff, 0xffffffff).or(four(63, 0x5555555555555555, 0x3333333333333333)), "1xx01xx01xx01xx1111111111111111x1xxx1xxx1xxx1xxx1xxx1xxx1xxx1xx"));
-    assert!(rt; spells(four(63, 0xffff0000ffff, 0xffffffff).xor(four(63, 0x5555555555555555, 0x3333333333333333)), "1xx01xx01xx01xx10xx10xx10xx10xxxxxxxxxxxxxxxxxxxxxxxxxxxxxxxxxx"));
-    assert!(rt; spells(four(63, 0x5555555555555555, 0x3333333333333333).not(), "0xx10xx10xx10xx10xx10xx10xx10xx10xx10xx10xx10xx10xx10xx10xx10xx"));
-    assert!(rt; spells(Four::unknown().choose(four(63, 0xffff0000ffff, 0xffffffff), four(63, 0x5555555555555555, 0x3333333333333333)), "xxx0xxx0xxx0xxxx1xxx1xxx1xxx1xxxxxxxxxxxxxxxxxxxxxxxxxxxxxxxxxx"));
+    assert!(rt;
+        spells(
+            four(63, 0xffff0000ffff, 0xffffffff).and(four(
+                63,
+                0x5555555555555555,
+                0x3333333333333333
+            )),
+            "00000000000000001xx01xx01xx01xx0xxx0xxx0xxx0xxx0xxx0xxx0xxx0xxx"
+        )
+    );
+    assert!(rt;
+        spells(
+            four(63, 0xffff0000ffff, 0xffffffff).or(four(
+                63,
+                0x5555555555555555,
+                0x3333333333333333
+            )),
+            "1xx01xx01xx01xx1111111111111111x1xxx1xxx1xxx1xxx1xxx1xxx1xxx1xx"
+        )
+    );
+    assert!(rt;
+        spells(
+            four(63, 0xffff0000ffff, 0xffffffff).xor(four(
+                63,
+                0x5555555555555555,
+                0x3333333333333333
+            )),
+            "1xx01xx01xx01xx10xx10xx10xx10xxxxxxxxxxxxxxxxxxxxxxxxxxxxxxxxxx"
+        )
+    );
+    assert!(rt;
+        spells(
+            four(63, 0x5555555555555555, 0x3333333333333333).not(),
+            "0xx10xx10xx10xx10xx10xx10xx10xx10xx10xx10xx10xx10xx10xx10xx10xx"
+        )
+    );
+    assert!(rt;
+        spells(
+            Four::unknown().choose(
+                four(63, 0xffff0000ffff, 0xffffffff),
+                four(63, 0x5555555555555555, 0x3333333333333333)
+            ),
+            "xxx0xxx0xxx0xxxx1xxx1xxx1xxx1xxxxxxxxxxxxxxxxxxxxxxxxxxxxxxxxxx"
+        )
+    );
 }
 
 #[test]
 fn numbers_of_63(rt: HostRuntime) {
-    assert!(rt; spells(four(63, 0x7fffffffffffffff, 0).add(four(63, 1, 0)), "000000000000000000000000000000000000000000000000000000000000000"));
-    assert!(rt; spells(four(63, 1, 0).sub(four(63, 0x7fffffffffffffff, 0)), "000000000000000000000000000000000000000000000000000000000000010"));
-    assert!(rt; spells(four(63, 0x7fffffffffffffff, 0).mul(four(63, 0x7fffffffffffffff, 0)), "000000000000000000000000000000000000000000000000000000000000001"));
-    assert!(rt; spells(four(63, 0x7fffffffffffffff, 0).add(four(63, 0x5555555555555555, 0x3333333333333333)), "xxxxxxxxxxxxxxxxxxxxxxxxxxxxxxxxxxxxxxxxxxxxxxxxxxxxxxxxxxxxxxx"));
-    assert!(rt; spells(four(63, 1, 0).neg(), "111111111111111111111111111111111111111111111111111111111111111"));
+    assert!(rt;
+        spells(
+            four(63, 0x7fffffffffffffff, 0).add(four(63, 1, 0)),
+            "000000000000000000000000000000000000000000000000000000000000000"
+        )
+    );
+    assert!(rt;
+        spells(
+            four(63, 1, 0).sub(four(63, 0x7fffffffffffffff, 0)),
+            "000000000000000000000000000000000000000000000000000000000000010"
+        )
+    );
+    assert!(rt;
+        spells(
+            four(63, 0x7fffffffffffffff, 0).mul(four(63, 0x7fffffffffffffff, 0)),
+            "000000000000000000000000000000000000000000000000000000000000001"
+        )
+    );
+    assert!(rt;
+        spells(
+            four(63, 0x7fffffffffffffff, 0).add(four(63, 0x5555555555555555, 0x3333333333333333)),
+            "xxxxxxxxxxxxxxxxxxxxxxxxxxxxxxxxxxxxxxxxxxxxxxxxxxxxxxxxxxxxxxx"
+        )
+    );
+    assert!(rt;
+        spells(
+            four(63, 1, 0).neg(),
+            "111111111111111111111111111111111111111111111111111111111111111"
+        )
+    );
     assert!(rt; spells(four(63, 0x4000000000000000, 0).lt(four(63, 1, 0)), "0"));
-    assert!(rt; spells(four(63, 0x4000000000000000, 0).lt_signed(four(63, 1, 0)), "1"));
-    assert!(rt; spells(four(63, 0xffff0000ffff, 0xffffffff).eq(four(63, 0x5555555555555555, 0x3333333333333333)), "0"));
+    assert!(rt;
+        spells(
+            four(63, 0x4000000000000000, 0).lt_signed(four(63, 1, 0)),
+            "1"
+        )
+    );
+    assert!(rt;
+        spells(
+            four(63, 0xffff0000ffff, 0xffffffff).eq(four(
+                63,
+                0x5555555555555555,
+                0x3333333333333333
+            )),
+            "0"
+        )
+    );
     assert!(rt; spells(four(63, 0, 0x4000000000000000).eq(four(63, 0, 0)), "x"));
     assert!(rt; spells(four(63, 0x3fffffffffffffff, 0x4000000000000000).all(), "x"));
     assert!(rt; spells(four(63, 0x4000000000000000, 0x4000000000000000).any(), "x"));
@@ -771,42 +377,161 @@ fn numbers_of_63(rt: HostRuntime) {
 
 #[test]
 fn shifts_of_63(rt: HostRuntime) {
-    assert!(rt; spells(four(63, 0x4000ffff0000ffff, 0x40000000ffffffff).shl(four(1, 1, 0)), "000000000000001111111111111111xxxxxxxxxxxxxxxxxxxxxxxxxxxxxxxx0"));
-    assert!(rt; spells(four(63, 0x4000ffff0000ffff, 0x40000000ffffffff).shr(four(1, 1, 0)), "0x000000000000001111111111111111xxxxxxxxxxxxxxxxxxxxxxxxxxxxxxx"));
-    assert!(rt; spells(four(63, 0x4000ffff0000ffff, 0x40000000ffffffff).sar(four(1, 1, 0)), "xx000000000000001111111111111111xxxxxxxxxxxxxxxxxxxxxxxxxxxxxxx"));
-    assert!(rt; spells(four(63, 0x4000ffff0000ffff, 0x40000000ffffffff).shl(four(6, 0x3e, 0)), "x00000000000000000000000000000000000000000000000000000000000000"));
-    assert!(rt; spells(four(63, 0x4000ffff0000ffff, 0x40000000ffffffff).shr(four(6, 0x3e, 0)), "00000000000000000000000000000000000000000000000000000000000000x"));
-    assert!(rt; spells(four(63, 0x4000ffff0000ffff, 0x40000000ffffffff).sar(four(6, 0x3e, 0)), "xxxxxxxxxxxxxxxxxxxxxxxxxxxxxxxxxxxxxxxxxxxxxxxxxxxxxxxxxxxxxxx"));
-    assert!(rt; spells(four(63, 0x4000ffff0000ffff, 0x40000000ffffffff).shl(four(6, 0x3f, 0)), "000000000000000000000000000000000000000000000000000000000000000"));
-    assert!(rt; spells(four(63, 0x4000ffff0000ffff, 0x40000000ffffffff).shr(four(6, 0x3f, 0)), "000000000000000000000000000000000000000000000000000000000000000"));
-    assert!(rt; spells(four(63, 0x4000ffff0000ffff, 0x40000000ffffffff).sar(four(6, 0x3f, 0)), "xxxxxxxxxxxxxxxxxxxxxxxxxxxxxxxxxxxxxxxxxxxxxxxxxxxxxxxxxxxxxxx"));
-    assert!(rt; spells(four(63, 0x4000ffff0000ffff, 0x40000000ffffffff).shl(four(64, 0xffffffffffffffff, 0)), "000000000000000000000000000000000000000000000000000000000000000"));
-    assert!(rt; spells(four(63, 0x4000ffff0000ffff, 0x40000000ffffffff).shr(four(64, 0xffffffffffffffff, 0)), "000000000000000000000000000000000000000000000000000000000000000"));
-    assert!(rt; spells(four(63, 0x4000ffff0000ffff, 0x40000000ffffffff).sar(four(64, 0xffffffffffffffff, 0)), "xxxxxxxxxxxxxxxxxxxxxxxxxxxxxxxxxxxxxxxxxxxxxxxxxxxxxxxxxxxxxxx"));
-    assert!(rt; spells(four(63, 0x4000ffff0000ffff, 0x40000000ffffffff).shl(four(2, 1, 2)), "xxxxxxxxxxxxxxxxxxxxxxxxxxxxxxxxxxxxxxxxxxxxxxxxxxxxxxxxxxxxxxx"));
-    assert!(rt; spells(four(63, 0x4000ffff0000ffff, 0x40000000ffffffff).shr(four(2, 1, 2)), "xxxxxxxxxxxxxxxxxxxxxxxxxxxxxxxxxxxxxxxxxxxxxxxxxxxxxxxxxxxxxxx"));
-    assert!(rt; spells(four(63, 0x4000ffff0000ffff, 0x40000000ffffffff).sar(four(2, 1, 2)), "xxxxxxxxxxxxxxxxxxxxxxxxxxxxxxxxxxxxxxxxxxxxxxxxxxxxxxxxxxxxxxx"));
+    assert!(rt;
+        shifts_spell(
+            four(63, 0x4000ffff0000ffff, 0x40000000ffffffff),
+            four(1, 1, 0),
+            [
+                "000000000000001111111111111111xxxxxxxxxxxxxxxxxxxxxxxxxxxxxxxx0",
+                "0x000000000000001111111111111111xxxxxxxxxxxxxxxxxxxxxxxxxxxxxxx",
+                "xx000000000000001111111111111111xxxxxxxxxxxxxxxxxxxxxxxxxxxxxxx"
+            ]
+        )
+    );
+    assert!(rt;
+        shifts_spell(
+            four(63, 0x4000ffff0000ffff, 0x40000000ffffffff),
+            four(6, 0x3e, 0),
+            [
+                "x00000000000000000000000000000000000000000000000000000000000000",
+                "00000000000000000000000000000000000000000000000000000000000000x",
+                "xxxxxxxxxxxxxxxxxxxxxxxxxxxxxxxxxxxxxxxxxxxxxxxxxxxxxxxxxxxxxxx"
+            ]
+        )
+    );
+    assert!(rt;
+        shifts_spell(
+            four(63, 0x4000ffff0000ffff, 0x40000000ffffffff),
+            four(6, 0x3f, 0),
+            [
+                "000000000000000000000000000000000000000000000000000000000000000",
+                "000000000000000000000000000000000000000000000000000000000000000",
+                "xxxxxxxxxxxxxxxxxxxxxxxxxxxxxxxxxxxxxxxxxxxxxxxxxxxxxxxxxxxxxxx"
+            ]
+        )
+    );
+    assert!(rt;
+        shifts_spell(
+            four(63, 0x4000ffff0000ffff, 0x40000000ffffffff),
+            four(64, 0xffffffffffffffff, 0),
+            [
+                "000000000000000000000000000000000000000000000000000000000000000",
+                "000000000000000000000000000000000000000000000000000000000000000",
+                "xxxxxxxxxxxxxxxxxxxxxxxxxxxxxxxxxxxxxxxxxxxxxxxxxxxxxxxxxxxxxxx"
+            ]
+        )
+    );
+    assert!(rt;
+        shifts_spell(
+            four(63, 0x4000ffff0000ffff, 0x40000000ffffffff),
+            four(2, 1, 2),
+            [
+                "xxxxxxxxxxxxxxxxxxxxxxxxxxxxxxxxxxxxxxxxxxxxxxxxxxxxxxxxxxxxxxx",
+                "xxxxxxxxxxxxxxxxxxxxxxxxxxxxxxxxxxxxxxxxxxxxxxxxxxxxxxxxxxxxxxx",
+                "xxxxxxxxxxxxxxxxxxxxxxxxxxxxxxxxxxxxxxxxxxxxxxxxxxxxxxxxxxxxxxx"
+            ]
+        )
+    );
 }
 
 #[test]
 fn bits_of_64(rt: HostRuntime) {
-    assert!(rt; spells(four(64, 0xffff0000ffff, 0xffffffff).and(four(64, 0x5555555555555555, 0x3333333333333333)), "000000000000000001xx01xx01xx01xx0xxx0xxx0xxx0xxx0xxx0xxx0xxx0xxx"));
-    assert!(rt; spells(four(64, 0xffff0000ffff, 0xffffffff).or(four(64, 0x5555555555555555, 0x3333333333333333)), "01xx01xx01xx01xx1111111111111111x1xxx1xxx1xxx1xxx1xxx1xxx1xxx1xx"));
-    assert!(rt; spells(four(64, 0xffff0000ffff, 0xffffffff).xor(four(64, 0x5555555555555555, 0x3333333333333333)), "01xx01xx01xx01xx10xx10xx10xx10xxxxxxxxxxxxxxxxxxxxxxxxxxxxxxxxxx"));
-    assert!(rt; spells(four(64, 0x5555555555555555, 0x3333333333333333).not(), "10xx10xx10xx10xx10xx10xx10xx10xx10xx10xx10xx10xx10xx10xx10xx10xx"));
-    assert!(rt; spells(Four::unknown().choose(four(64, 0xffff0000ffff, 0xffffffff), four(64, 0x5555555555555555, 0x3333333333333333)), "0xxx0xxx0xxx0xxxx1xxx1xxx1xxx1xxxxxxxxxxxxxxxxxxxxxxxxxxxxxxxxxx"));
+    assert!(rt;
+        spells(
+            four(64, 0xffff0000ffff, 0xffffffff).and(four(
+                64,
+                0x5555555555555555,
+                0x3333333333333333
+            )),
+            "000000000000000001xx01xx01xx01xx0xxx0xxx0xxx0xxx0xxx0xxx0xxx0xxx"
+        )
+    );
+    assert!(rt;
+        spells(
+            four(64, 0xffff0000ffff, 0xffffffff).or(four(
+                64,
+                0x5555555555555555,
+                0x3333333333333333
+            )),
+            "01xx01xx01xx01xx1111111111111111x1xxx1xxx1xxx1xxx1xxx1xxx1xxx1xx"
+        )
+    );
+    assert!(rt;
+        spells(
+            four(64, 0xffff0000ffff, 0xffffffff).xor(four(
+                64,
+                0x5555555555555555,
+                0x3333333333333333
+            )),
+            "01xx01xx01xx01xx10xx10xx10xx10xxxxxxxxxxxxxxxxxxxxxxxxxxxxxxxxxx"
+        )
+    );
+    assert!(rt;
+        spells(
+            four(64, 0x5555555555555555, 0x3333333333333333).not(),
+            "10xx10xx10xx10xx10xx10xx10xx10xx10xx10xx10xx10xx10xx10xx10xx10xx"
+        )
+    );
+    assert!(rt;
+        spells(
+            Four::unknown().choose(
+                four(64, 0xffff0000ffff, 0xffffffff),
+                four(64, 0x5555555555555555, 0x3333333333333333)
+            ),
+            "0xxx0xxx0xxx0xxxx1xxx1xxx1xxx1xxxxxxxxxxxxxxxxxxxxxxxxxxxxxxxxxx"
+        )
+    );
 }
 
 #[test]
 fn numbers_of_64(rt: HostRuntime) {
-    assert!(rt; spells(four(64, 0xffffffffffffffff, 0).add(four(64, 1, 0)), "0000000000000000000000000000000000000000000000000000000000000000"));
-    assert!(rt; spells(four(64, 1, 0).sub(four(64, 0xffffffffffffffff, 0)), "0000000000000000000000000000000000000000000000000000000000000010"));
-    assert!(rt; spells(four(64, 0xffffffffffffffff, 0).mul(four(64, 0xffffffffffffffff, 0)), "0000000000000000000000000000000000000000000000000000000000000001"));
-    assert!(rt; spells(four(64, 0xffffffffffffffff, 0).add(four(64, 0x5555555555555555, 0x3333333333333333)), "xxxxxxxxxxxxxxxxxxxxxxxxxxxxxxxxxxxxxxxxxxxxxxxxxxxxxxxxxxxxxxxx"));
-    assert!(rt; spells(four(64, 1, 0).neg(), "1111111111111111111111111111111111111111111111111111111111111111"));
+    assert!(rt;
+        spells(
+            four(64, 0xffffffffffffffff, 0).add(four(64, 1, 0)),
+            "0000000000000000000000000000000000000000000000000000000000000000"
+        )
+    );
+    assert!(rt;
+        spells(
+            four(64, 1, 0).sub(four(64, 0xffffffffffffffff, 0)),
+            "0000000000000000000000000000000000000000000000000000000000000010"
+        )
+    );
+    assert!(rt;
+        spells(
+            four(64, 0xffffffffffffffff, 0).mul(four(64, 0xffffffffffffffff, 0)),
+            "0000000000000000000000000000000000000000000000000000000000000001"
+        )
+    );
+    assert!(rt;
+        spells(
+            four(64, 0xffffffffffffffff, 0).add(four(64, 0x5555555555555555, 0x3333333333333333)),
+            "xxxxxxxxxxxxxxxxxxxxxxxxxxxxxxxxxxxxxxxxxxxxxxxxxxxxxxxxxxxxxxxx"
+        )
+    );
+    assert!(rt;
+        spells(
+            four(64, 1, 0).neg(),
+            "1111111111111111111111111111111111111111111111111111111111111111"
+        )
+    );
     assert!(rt; spells(four(64, 0x8000000000000000, 0).lt(four(64, 1, 0)), "0"));
-    assert!(rt; spells(four(64, 0x8000000000000000, 0).lt_signed(four(64, 1, 0)), "1"));
-    assert!(rt; spells(four(64, 0xffff0000ffff, 0xffffffff).eq(four(64, 0x5555555555555555, 0x3333333333333333)), "0"));
+    assert!(rt;
+        spells(
+            four(64, 0x8000000000000000, 0).lt_signed(four(64, 1, 0)),
+            "1"
+        )
+    );
+    assert!(rt;
+        spells(
+            four(64, 0xffff0000ffff, 0xffffffff).eq(four(
+                64,
+                0x5555555555555555,
+                0x3333333333333333
+            )),
+            "0"
+        )
+    );
     assert!(rt; spells(four(64, 0, 0x8000000000000000).eq(four(64, 0, 0)), "x"));
     assert!(rt; spells(four(64, 0x7fffffffffffffff, 0x8000000000000000).all(), "x"));
     assert!(rt; spells(four(64, 0x8000000000000000, 0x8000000000000000).any(), "x"));
@@ -815,29 +540,81 @@ fn numbers_of_64(rt: HostRuntime) {
 
 #[test]
 fn shifts_of_64(rt: HostRuntime) {
-    assert!(rt; spells(four(64, 0x8000ffff0000ffff, 0x80000000ffffffff).shl(four(1, 1, 0)), "0000000000000001111111111111111xxxxxxxxxxxxxxxxxxxxxxxxxxxxxxxx0"));
-    assert!(rt; spells(four(64, 0x8000ffff0000ffff, 0x80000000ffffffff).shr(four(1, 1, 0)), "0x0000000000000001111111111111111xxxxxxxxxxxxxxxxxxxxxxxxxxxxxxx"));
-    assert!(rt; spells(four(64, 0x8000ffff0000ffff, 0x80000000ffffffff).sar(four(1, 1, 0)), "xx0000000000000001111111111111111xxxxxxxxxxxxxxxxxxxxxxxxxxxxxxx"));
-    assert!(rt; spells(four(64, 0x8000ffff0000ffff, 0x80000000ffffffff).shl(four(6, 0x3f, 0)), "x000000000000000000000000000000000000000000000000000000000000000"));
-    assert!(rt; spells(four(64, 0x8000ffff0000ffff, 0x80000000ffffffff).shr(four(6, 0x3f, 0)), "000000000000000000000000000000000000000000000000000000000000000x"));
-    assert!(rt; spells(four(64, 0x8000ffff0000ffff, 0x80000000ffffffff).sar(four(6, 0x3f, 0)), "xxxxxxxxxxxxxxxxxxxxxxxxxxxxxxxxxxxxxxxxxxxxxxxxxxxxxxxxxxxxxxxx"));
-    assert!(rt; spells(four(64, 0x8000ffff0000ffff, 0x80000000ffffffff).shl(four(7, 0x40, 0)), "0000000000000000000000000000000000000000000000000000000000000000"));
-    assert!(rt; spells(four(64, 0x8000ffff0000ffff, 0x80000000ffffffff).shr(four(7, 0x40, 0)), "0000000000000000000000000000000000000000000000000000000000000000"));
-    assert!(rt; spells(four(64, 0x8000ffff0000ffff, 0x80000000ffffffff).sar(four(7, 0x40, 0)), "xxxxxxxxxxxxxxxxxxxxxxxxxxxxxxxxxxxxxxxxxxxxxxxxxxxxxxxxxxxxxxxx"));
-    assert!(rt; spells(four(64, 0x8000ffff0000ffff, 0x80000000ffffffff).shl(four(64, 0xffffffffffffffff, 0)), "0000000000000000000000000000000000000000000000000000000000000000"));
-    assert!(rt; spells(four(64, 0x8000ffff0000ffff, 0x80000000ffffffff).shr(four(64, 0xffffffffffffffff, 0)), "0000000000000000000000000000000000000000000000000000000000000000"));
-    assert!(rt; spells(four(64, 0x8000ffff0000ffff, 0x80000000ffffffff).sar(four(64, 0xffffffffffffffff, 0)), "xxxxxxxxxxxxxxxxxxxxxxxxxxxxxxxxxxxxxxxxxxxxxxxxxxxxxxxxxxxxxxxx"));
-    assert!(rt; spells(four(64, 0x8000ffff0000ffff, 0x80000000ffffffff).shl(four(2, 1, 2)), "xxxxxxxxxxxxxxxxxxxxxxxxxxxxxxxxxxxxxxxxxxxxxxxxxxxxxxxxxxxxxxxx"));
-    assert!(rt; spells(four(64, 0x8000ffff0000ffff, 0x80000000ffffffff).shr(four(2, 1, 2)), "xxxxxxxxxxxxxxxxxxxxxxxxxxxxxxxxxxxxxxxxxxxxxxxxxxxxxxxxxxxxxxxx"));
-    assert!(rt; spells(four(64, 0x8000ffff0000ffff, 0x80000000ffffffff).sar(four(2, 1, 2)), "xxxxxxxxxxxxxxxxxxxxxxxxxxxxxxxxxxxxxxxxxxxxxxxxxxxxxxxxxxxxxxxx"));
+    assert!(rt;
+        shifts_spell(
+            four(64, 0x8000ffff0000ffff, 0x80000000ffffffff),
+            four(1, 1, 0),
+            [
+                "0000000000000001111111111111111xxxxxxxxxxxxxxxxxxxxxxxxxxxxxxxx0",
+                "0x0000000000000001111111111111111xxxxxxxxxxxxxxxxxxxxxxxxxxxxxxx",
+                "xx0000000000000001111111111111111xxxxxxxxxxxxxxxxxxxxxxxxxxxxxxx"
+            ]
+        )
+    );
+    assert!(rt;
+        shifts_spell(
+            four(64, 0x8000ffff0000ffff, 0x80000000ffffffff),
+            four(6, 0x3f, 0),
+            [
+                "x000000000000000000000000000000000000000000000000000000000000000",
+                "000000000000000000000000000000000000000000000000000000000000000x",
+                "xxxxxxxxxxxxxxxxxxxxxxxxxxxxxxxxxxxxxxxxxxxxxxxxxxxxxxxxxxxxxxxx"
+            ]
+        )
+    );
+    assert!(rt;
+        shifts_spell(
+            four(64, 0x8000ffff0000ffff, 0x80000000ffffffff),
+            four(7, 0x40, 0),
+            [
+                "0000000000000000000000000000000000000000000000000000000000000000",
+                "0000000000000000000000000000000000000000000000000000000000000000",
+                "xxxxxxxxxxxxxxxxxxxxxxxxxxxxxxxxxxxxxxxxxxxxxxxxxxxxxxxxxxxxxxxx"
+            ]
+        )
+    );
+    assert!(rt;
+        shifts_spell(
+            four(64, 0x8000ffff0000ffff, 0x80000000ffffffff),
+            four(64, 0xffffffffffffffff, 0),
+            [
+                "0000000000000000000000000000000000000000000000000000000000000000",
+                "0000000000000000000000000000000000000000000000000000000000000000",
+                "xxxxxxxxxxxxxxxxxxxxxxxxxxxxxxxxxxxxxxxxxxxxxxxxxxxxxxxxxxxxxxxx"
+            ]
+        )
+    );
+    assert!(rt;
+        shifts_spell(
+            four(64, 0x8000ffff0000ffff, 0x80000000ffffffff),
+            four(2, 1, 2),
+            [
+                "xxxxxxxxxxxxxxxxxxxxxxxxxxxxxxxxxxxxxxxxxxxxxxxxxxxxxxxxxxxxxxxx",
+                "xxxxxxxxxxxxxxxxxxxxxxxxxxxxxxxxxxxxxxxxxxxxxxxxxxxxxxxxxxxxxxxx",
+                "xxxxxxxxxxxxxxxxxxxxxxxxxxxxxxxxxxxxxxxxxxxxxxxxxxxxxxxxxxxxxxxx"
+            ]
+        )
+    );
 }
 
 #[test]
 #[tactic(auto, using(crate::proofs::Moves::resize_length))]
 fn examples(rt: HostRuntime) {
     assert!(rt; spells(four(8, 0xc8, 0).add(four(8, 0x64, 0)), "00101100"));
-    assert!(rt; spells(four(8, 0xc8, 0).resize(9, false).add(four(8, 0x64, 0).resize(9, false)), "100101100"));
-    assert!(rt; spells(four(32, 1, 0).resize(64, true).neg(), "1111111111111111111111111111111111111111111111111111111111111111"));
+    assert!(rt;
+        spells(
+            four(8, 0xc8, 0)
+                .resize(9, false)
+                .add(four(8, 0x64, 0).resize(9, false)),
+            "100101100"
+        )
+    );
+    assert!(rt;
+        spells(
+            four(32, 1, 0).resize(64, true).neg(),
+            "1111111111111111111111111111111111111111111111111111111111111111"
+        )
+    );
     assert!(rt; spells(four(4, 8, 0).sar(four(1, 1, 0)), "1100"));
     assert!(rt; spells(four(3, 1, 4).eq(four(3, 4, 0)), "0"));
     assert!(rt; spells(four(4, 8, 8).sar(four(1, 1, 0)), "xx00"));
@@ -845,4 +622,3 @@ fn examples(rt: HostRuntime) {
     assert!(rt; spells(four(2, 1, 3).concat(four(2, 1, 0)), "xz01"));
     assert!(rt; spells(four(4, 6, 0xa).slice(1, 2), "1z"));
 }
-
