@@ -1,10 +1,9 @@
 -- Operators on known operands, and on others.
-use Rattle.std.proofs.Common.{◌≡◌, ℕ, ◌+◌, ◌-◌, ◌*◌, ◌^◌, Bool, true, false, ◌&&◌, List, [], ◌∷◌, length, map, replicate, refl, sym, ◌∙◌, ap, ltb, int_lt, arith, ◌⊎◌, inl, inr}
+use Rattle.std.proofs.Common.{◌≡◌, ◌+◌, ◌-◌, ◌*◌, ◌^◌, true, false, ◌&&◌, List, [], ◌∷◌, length, map, replicate, refl, ap, ltb, int_lt, arith, ◌⊎◌, inl, inr}
 use Rattle.vod_bits.specs.Bit.{Bit, B0, B1, BX, BZ, bit_if}
-use Rattle.vod_bits.specs.Value.{bits_of, number_of, signed_of, upper_bit, all_known, zip_with, shift_left, shift_right}
-use Rattle.vod_four.specs.Four.{four_bit, operand_bit, sum_bits, difference_bits, product_bits, negative_bits, less_bit, less_signed_bit, any_differ, equal_bit, shift_left_by, shift_right_by, shift_signed_by}
-use Rattle.vod_four.specs.Fields.{one_bit, unk_bit, sure_bit}
-use Rattle.vod_four.proofs.Moves.{shift_left-planes, shift_right-planes, copying-planes, copying}
+use Rattle.vod_bits.specs.Value.{bits_of, number_of, signed_of, all_known, shift_left, shift_right}
+use Rattle.vod_four.specs.Four.{operand_bit, sum_bits, difference_bits, product_bits, negative_bits, less_bit, less_signed_bit, any_differ, equal_bit, shift_left_by, shift_right_by, shift_signed_by}
+use Rattle.vod_four.proofs.Moves.{copying}
 
 pub sum-known : (xs ys : List Bit) → (all_known xs && all_known ys) ≡ true → sum_bits xs ys ≡ bits_of (length xs) (number_of xs + number_of ys)
 unfolding sum_bits

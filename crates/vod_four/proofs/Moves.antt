@@ -1,11 +1,12 @@
 -- Shifts, sizes, slices and concatenations by planes: what moves bits moves those of each plane.
-use Rattle.std.proofs.Common.{◌≡◌, ℕ, zero, suc, ◌+◌, ◌-◌, ◌≤◌, Bool, true, false, cond, List, [], ◌∷◌, ◌++◌, length, map, replicate, take, drop, refl, sym, ◌∙◌, ap, arith}
-use Rattle.std.proofs.lemmas.List.{map-append, drop-map, take-map, length-drop, length-append, length-replicate, length-take}
-use Rattle.vod_bits.specs.Bit.{Bit, B0, B1, BX, BZ}
+use Rattle.std.proofs.Common.{◌≡◌, ℕ, zero, suc, ◌+◌, ◌-◌, Bool, true, false, cond, List, [], ◌∷◌, ◌++◌, length, map, replicate, take, drop, refl, sym, ◌∙◌, ap}
+use Rattle.std.proofs.lemmas.List.{map-append, drop-map, take-map}
+use Rattle.vod_bits.specs.Bit.{Bit, B0}
 use Rattle.vod_bits.specs.Value.{upper_bit, zip_with, shift_left, shift_right, resize_bits, slice_bits}
+use Rattle.vod_bits.specs.Lengths.{map_length}
 use Rattle.vod_four.specs.Four.{four_bit, operand_bit}
 use Rattle.vod_four.specs.Fields.{one_bit, unk_bit, sure_bit}
-use Rattle.vod_four.proofs.Planes.{bit_cases, map-map, map_length, rebuilt}
+use Rattle.vod_four.proofs.Planes.{bit_cases, map-map, rebuilt}
 
 map-replicate : (f : Bit → Bit) (n : ℕ) (b : Bit) → map f (replicate n b) ≡ replicate n (f b)
 map-replicate f zero b = refl
@@ -84,21 +85,3 @@ slice-planes low width xs = rw (← map-slice one_bit low width xs, ← map-slic
 
 pub append-planes : (xs ys : List Bit) → zip_with four_bit (map one_bit xs ++ map one_bit ys) (map unk_bit xs ++ map unk_bit ys) ≡ xs ++ ys
 append-planes xs ys = rw (← map-append one_bit xs ys, ← map-append unk_bit xs ys) (rebuilt (xs ++ ys))
-
--- ---- lengths
-
-pub shift_left_length : (n : ℕ) (xs : List Bit) → length (shift_left n xs) ≡ length xs
-unfolding shift_left
-shift_left_length n xs = simp (length-drop, length-append, length-replicate) (omega arith)
-
-pub shift_right_length : (fill : Bit) (n : ℕ) (xs : List Bit) → length (shift_right fill n xs) ≡ length xs
-unfolding shift_right
-shift_right_length fill n xs = simp (length-take, length-append, length-replicate) (omega arith)
-
-pub resize_length : (width : ℕ) (signed : Bool) (xs : List Bit) → length (resize_bits width signed xs) ≡ width
-unfolding resize_bits
-resize_length width signed xs = simp (length-append, length-replicate, length-drop) (omega arith)
-
-pub slice_length : (low width : ℕ) (xs : List Bit) → low + width ≤ length xs → length (slice_bits low width xs) ≡ width
-unfolding slice_bits
-slice_length low width xs h = simp (length-take, length-drop) (omega arith)

@@ -1,13 +1,14 @@
 -- Operators on values of four states by those on their planes.
-use Rattle.std.proofs.Common.{◌≡◌, ℕ, zero, suc, ◌+◌, Bool, true, false, not, ◌&&◌, ◌||◌, cond, List, [], ◌∷◌, ◌++◌, length, map, replicate, refl, sym, ◌∙◌, ap, arith}
+use Rattle.std.proofs.Common.{◌≡◌, ℕ, zero, suc, Bool, true, false, not, ◌&&◌, ◌||◌, cond, List, [], ◌∷◌, length, map, replicate, refl, sym, ◌∙◌, ap, arith}
 use Rattle.std.specs.Int.{bit_at, from_bool}
 use Rattle.std.specs.List.{list_any, list_all}
 use Rattle.std.proofs.Math.Bool.{and-false}
 use Rattle.std.proofs.lemmas.Nat.Bits.{bit_at-lt, bit_at-zero}
 use Rattle.vod_bits.specs.Bit.{Bit, B0, B1, BX, BZ, is_0, is_1, is_known, bit_if, not_bit, and_bit, or_bit, xor_bit}
 use Rattle.vod_bits.specs.Value.{bits_from, bits_of, digit_bit, all_known, zip_with, fold_bits}
-use Rattle.vod_bits.specs.Fields.{digit_cases, length-bits_from}
+use Rattle.vod_bits.specs.Fields.{digit_cases}
 use Rattle.vod_bits.proofs.Places.{bits_from-same, replicate-bits_from}
+use Rattle.vod_bits.specs.Lengths.{zip_length, map_length}
 use Rattle.vod_four.specs.Four.{four_bit, four_of, operand_bit, merge_bit, any_differ, equal_bit, truth_bit, choose_bits}
 use Rattle.vod_four.specs.Fields.{one_bit, unk_bit, sure_bit, possible_bit, bounded_bit, four-places}
 
@@ -22,18 +23,6 @@ pub bit_pairs : (P : Bit → Bit → Type 0) → P B0 B0 → P B0 B1 → P B0 BX
     → P BX B0 → P BX B1 → P BX BX → P BX BZ → P BZ B0 → P BZ B1 → P BZ BX → P BZ BZ → (a b : Bit) → P a b
 bit_pairs P a b c d e f g h i j k l m n o p x y =
     bit_cases (λ x. P x y) (bit_cases (P B0) a b c d y) (bit_cases (P B1) e f g h y) (bit_cases (P BX) i j k l y) (bit_cases (P BZ) m n o p y) x
-
-pub zip_length : (f : Bit → Bit → Bit) (xs ys : List Bit) → length xs ≡ length ys → length (zip_with f xs ys) ≡ length xs
-unfolding zip_with
-zip_length f [] ys e = refl
-zip_length f (x ∷ xs) [] e = absurd (omega arith)
-zip_length f (x ∷ xs) (y ∷ ys) e = let same : length xs ≡ length ys = omega arith in ap suc (zip_length f xs ys same)
-
-pub map_length : (f : Bit → Bit) (xs : List Bit) → length (map f xs) ≡ length xs
-map_length f [] = refl
-map_length f (x ∷ xs) = ap suc (map_length f xs)
-
-pub ruleset lengths = (zip_length, map_length)
 
 -- a value is made of its planes
 pub rebuilt : (xs : List Bit) → zip_with four_bit (map one_bit xs) (map unk_bit xs) ≡ xs

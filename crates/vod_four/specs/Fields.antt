@@ -1,11 +1,11 @@
 -- That a value's bits give back its width and its words.
-use Rattle.std.specs.Prelude.{◌≡◌, ℕ, zero, suc, ◌^◌, ◌<◌, ◌%◌, Bool, true, false, not, List, [], ◌∷◌, length, map}
-use Rattle.std.proofs.Common.{refl, sym, ◌∙◌, ap, arith, mod-eq_of_lt}
+use Rattle.std.specs.Prelude.{◌≡◌, ℕ, ◌^◌, ◌<◌, not, List, length, map}
+use Rattle.std.proofs.Common.{refl, ◌∙◌, ap, mod-eq_of_lt}
 use Rattle.std.specs.Int.{bit_at}
 use Rattle.std.proofs.lemmas.Nat.Bits.{bit_at-lt}
 use Rattle.vod_bits.specs.Bit.{Bit, B0, B1, BX, BZ, is_0, is_1, bit_if, not_bit, and_bit}
-use Rattle.vod_bits.specs.Value.{bits_from, bits_of, number_of, digit_bit, zip_with}
-use Rattle.vod_bits.specs.Fields.{digit_cases, number-of_bits, length-bits_from, width_back}
+use Rattle.vod_bits.specs.Value.{bits_from, bits_of, number_of, digit_bit}
+use Rattle.vod_bits.specs.Fields.{number-of_bits, length-bits_from}
 use Rattle.vod_bits.proofs.Places.{bits_from-same, zip-bits_from, map-bits_from}
 use Rattle.vod_bits.proofs.Numbers.{digit_pairs}
 use Rattle.vod_four.specs.Four.{four_bit, four_of}

@@ -1,5 +1,5 @@
 -- Operators on values of four states where they differ from those on known values (IEEE 1364-2005, 4.1 and 5.1).
-use Rattle.std.specs.Prelude.{ℕ, ◌+◌, ◌-◌, ◌*◌, ◌^◌, Bool, true, false, ◌&&◌, ◌||◌, not, nat_lt, int_lt, if◌then◌else◌, List, [], ◌∷◌, length, map, replicate}
+use Rattle.std.specs.Prelude.{ℕ, ◌+◌, ◌-◌, ◌*◌, ◌^◌, Bool, false, ◌&&◌, ◌||◌, nat_lt, int_lt, if◌then◌else◌, List, [], ◌∷◌, length, map, replicate}
 use Rattle.std.specs.List.{list_any, list_all}
 use Rattle.vod_bits.specs.Bit.{Bit, B0, B1, BX, BZ, is_0, is_1, bit_if}
 use Rattle.vod_bits.specs.Value.{bits_of, number_of, signed_of, upper_bit, all_known, zip_with, shift_left, shift_right}

@@ -113,7 +113,7 @@ fn apply(operator: Operator, left: Four, right: Four) -> Four
 }
 
 // Whether the row has the results for this left operand.
-#[tactic(auto, using(crate::proofs::Moves::slice_length))]
+#[tactic(auto, using(vod_bits::specs::Lengths::slice_length))]
 fn row_holds(operator: Operator, left: Four, width: u8, row: &str) -> bool
     requires one { 1 ≤ width }
     requires two { width ≤ 2 }
@@ -128,7 +128,7 @@ fn row_holds(operator: Operator, left: Four, width: u8, row: &str) -> bool
 }
 
 // Whether the rows have the results for all left operands, or for the first ones.
-#[tactic(auto, using(crate::proofs::Moves::slice_length))]
+#[tactic(auto, using(vod_bits::specs::Lengths::slice_length))]
 fn table_holds(operator: Operator, width: u8, rows: &[&str]) -> bool
     requires one { 1 ≤ width }
     requires two { width ≤ 2 }
@@ -598,7 +598,7 @@ fn shifts_of_64(rt: HostRuntime) {
 }
 
 #[test]
-#[tactic(auto, using(crate::proofs::Moves::resize_length))]
+#[tactic(auto, using(vod_bits::specs::Lengths::resize_length))]
 fn examples(rt: HostRuntime) {
     assert!(rt; spells(four(8, 0xc8, 0).add(four(8, 0x64, 0)), "00101100"));
     assert!(rt;

@@ -1,5 +1,5 @@
 use Rattle.std.proofs.Common.{◌≡◌, ◌∙◌, ap, true}
-use Rattle.vod_bits.specs.Bit.{B0, B1, or_bit}
+use Rattle.vod_bits.specs.Bit.{B0, or_bit}
 use Rattle.vod_bits.specs.Value.{fold_bits, all_known}
 use Rattle.vod_four.proofs.Planes.{unknown-any, known-any, ones-known}
 use Rattle.vod_four.proofs.Four.known.Goals as goal

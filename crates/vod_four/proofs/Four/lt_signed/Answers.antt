@@ -1,5 +1,4 @@
 use Rattle.std.proofs.Common.{sym, ap, [], ◌∷◌}
-use Rattle.vod_bits.specs.Bit.{bit_if}
 use Rattle.vod_four.proofs.Known.{less_signed-known, less_signed-unknown}
 use Rattle.vod_four.proofs.Four.lt_signed.Goals as goal
 

@@ -1,5 +1,6 @@
+use Rattle.vod_bits.specs.Lengths.{resize_length}
 use Rattle.std.proofs.Common.{sym, ◌∙◌}
-use Rattle.vod_four.proofs.Moves.{resize-planes, resize_length}
+use Rattle.vod_four.proofs.Moves.{resize-planes}
 use Rattle.vod_four.proofs.Four.resize.Goals as goal
 
 pub from_planes-requires : goal.from_planes-requires

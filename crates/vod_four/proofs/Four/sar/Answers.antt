@@ -1,7 +1,7 @@
+use Rattle.vod_bits.specs.Lengths.{map_length, shift_right_length}
 use Rattle.std.proofs.Common.{sym, ◌∙◌, length, ◌≡◌}
 use Rattle.vod_four.specs.Fields.{sure_bit, unk_bit}
-use Rattle.vod_four.proofs.Planes.{map_length}
-use Rattle.vod_four.proofs.Moves.{copying-planes, shift_right_length}
+use Rattle.vod_four.proofs.Moves.{copying-planes}
 use Rattle.vod_four.proofs.Known.{shift_signed-known, shift_signed-unknown}
 use Rattle.vod_bits.specs.Value.{upper_bit}
 use Rattle.vod_four.proofs.Four.sar.Goals as goal

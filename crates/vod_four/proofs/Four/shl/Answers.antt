@@ -1,7 +1,7 @@
+use Rattle.vod_bits.specs.Lengths.{map_length, shift_left_length}
 use Rattle.std.proofs.Common.{sym, ◌∙◌, length, ◌≡◌}
 use Rattle.vod_four.specs.Fields.{sure_bit, unk_bit}
-use Rattle.vod_four.proofs.Planes.{map_length}
-use Rattle.vod_four.proofs.Moves.{shift_left-planes, shift_left_length}
+use Rattle.vod_four.proofs.Moves.{shift_left-planes}
 use Rattle.vod_four.proofs.Known.{shift_left-known, shift_left-unknown}
 use Rattle.vod_four.proofs.Four.shl.Goals as goal
 

@@ -1,7 +1,7 @@
-use Rattle.std.proofs.Common.{◌≡◌, ◌+◌, ◌≤◌, arith, length, sym, ◌∙◌}
+use Rattle.vod_bits.specs.Lengths.{map_length, slice_length}
+use Rattle.std.proofs.Common.{◌≡◌, arith, length, sym, ◌∙◌}
 use Rattle.vod_four.specs.Fields.{one_bit, unk_bit}
-use Rattle.vod_four.proofs.Planes.{map_length}
-use Rattle.vod_four.proofs.Moves.{slice-planes, slice_length}
+use Rattle.vod_four.proofs.Moves.{slice-planes}
 use Rattle.vod_four.proofs.Four.slice.Goals as goal
 
 pub from_planes-requires : goal.from_planes-requires

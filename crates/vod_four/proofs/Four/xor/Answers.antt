@@ -1,7 +1,8 @@
+use Rattle.vod_bits.specs.Lengths.{map_length, zip_length}
 use Rattle.std.proofs.Common.{◌≡◌, ◌∙◌, sym, length}
 use Rattle.vod_bits.specs.Bit.{and_bit, or_bit, xor_bit, not_bit}
 use Rattle.vod_four.specs.Fields.{one_bit, unk_bit}
-use Rattle.vod_four.proofs.Planes.{pair_length, zip_length, map_length, xor-planes}
+use Rattle.vod_four.proofs.Planes.{pair_length, xor-planes}
 use Rattle.vod_four.proofs.Four.xor.Goals as goal
 
 -- the planes have one length

@@ -1,6 +1,3 @@
-use Rattle.std.proofs.Common.{◌≡◌, ◌&&◌, true, refl}
-use Rattle.vod_bits.specs.Value.{all_known}
-use Rattle.vod_four.specs.Four.{equal_bit}
 use Rattle.vod_four.proofs.Known.{both-known, sum-known, difference-known, product-known, less-known, less_signed-known, equal-self, equal-other}
 use Rattle.vod_four.proofs.law.agree_on_pairs.Goals as goal
 

@@ -1,7 +1,6 @@
-use Rattle.std.proofs.Common.{◌≡◌, ◌∙◌, ap, map}
+use Rattle.std.proofs.Common.{◌∙◌, ap}
 use Rattle.vod_bits.specs.Bit.{B0}
 use Rattle.vod_bits.specs.Value.{number_of, shift_left, shift_right}
-use Rattle.vod_four.specs.Four.{operand_bit}
 use Rattle.vod_four.proofs.Moves.{copying}
 use Rattle.vod_four.proofs.Known.{negative-known, shift_left-known, shift_right-known, shift_signed-known, operand-known}
 use Rattle.vod_four.proofs.law.agree_on_shifts.Goals as goal
