@@ -3,7 +3,7 @@
 
 mod word;
 
-ghost use Rattle.std.specs.Prelude.{◌≡◌, ℕ, ◌+◌, ◌-◌, ◌*◌, ◌^◌, ◌<◌, ◌≤◌, ◌++◌, ◌↔◌, IsTrue, length, map, nat_lt, int_lt};
+ghost use Rattle.std.specs.Prelude.{◌≡◌, ◌+◌, ◌-◌, ◌*◌, ◌^◌, ◌≤◌, ◌++◌, ◌↔◌, IsTrue, length, map, nat_lt, int_lt};
 ghost use Rattle.vod_bits.specs.Bit.{B0, B1, bit_if, not_bit, and_bit, or_bit, xor_bit};
 ghost use Rattle.vod_bits.specs.Value.{bits_of, number_of, signed_of, upper_bit, zip_with, fold_bits, shift_left, shift_right, resize_bits, slice_bits};
 

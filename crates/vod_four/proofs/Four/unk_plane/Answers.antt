@@ -1,0 +1,6 @@
+use Rattle.std.proofs.Common.{sym}
+use Rattle.vod_four.specs.Fields.{unk-plane}
+use Rattle.vod_four.proofs.Four.unk_plane.Goals as goal
+
+pub returns : goal.returns
+returns c = rw (← c.self.view_is) (sym (unk-plane c.self.inside.width c.self.inside.ones c.self.inside.unks))
