@@ -36,10 +36,11 @@ possible_bit b = bit_if (not (is_0 b))
 abbrev pub bounded_bit : Bit → Bit → Bit
 bounded_bit sure possible = four_bit sure (and_bit possible (not_bit sure))
 
--- the words of a value
+-- the word of a value's ones
 abbrev pub ones_of : List Bit → ℕ
 ones_of bs = number_of (map one_bit bs)
 
+-- the word of its unknowns
 abbrev pub unks_of : List Bit → ℕ
 unks_of bs = number_of (map unk_bit bs)
 

@@ -23,23 +23,27 @@ operand_bit BZ = BX
 abbrev pub number_or_x : Bool → ℕ → ℕ → List Bit
 number_or_x known w n = if known then bits_of w n else replicate w BX
 
--- `+`, `-`, `*` and unary `-` (5.1.5)
+-- `+`: the sum modulo 2^w, or x in each bit (5.1.5)
 unfoldable pub sum_bits : List Bit → List Bit → List Bit
 sum_bits xs ys = number_or_x (all_known xs && all_known ys) (length xs) (number_of xs + number_of ys)
 
+-- `-`: the difference modulo 2^w, or x in each bit (5.1.5)
 unfoldable pub difference_bits : List Bit → List Bit → List Bit
 difference_bits xs ys = number_or_x (all_known xs && all_known ys) (length xs) (number_of xs + (2 ^ length xs - number_of ys))
 
+-- `*`: the product modulo 2^w, or x in each bit (5.1.5)
 unfoldable pub product_bits : List Bit → List Bit → List Bit
 product_bits xs ys = number_or_x (all_known xs && all_known ys) (length xs) (number_of xs * number_of ys)
 
+-- unary `-`: the same of one operand (5.1.5)
 unfoldable pub negative_bits : List Bit → List Bit
 negative_bits xs = number_or_x (all_known xs) (length xs) (2 ^ length xs - number_of xs)
 
--- `<` of unsigned values, and of signed ones: x where a bit is x or z (5.1.7)
+-- `<` of unsigned values: x where a bit is x or z (5.1.7)
 unfoldable pub less_bit : List Bit → List Bit → Bit
 less_bit xs ys = if all_known xs && all_known ys then bit_if (nat_lt (number_of xs) (number_of ys)) else BX
 
+-- `<` of signed values, likewise (5.1.7)
 unfoldable pub less_signed_bit : List Bit → List Bit → Bit
 less_signed_bit xs ys = if all_known xs && all_known ys then bit_if (int_lt (signed_of xs) (signed_of ys)) else BX
 
@@ -57,13 +61,15 @@ equal_bit xs ys = if any_differ xs ys then B0 else if all_known xs && all_known 
 unfoldable pub truth_bit : List Bit → Bit
 truth_bit bs = if list_any is_1 bs then B1 else if list_all is_0 bs then B0 else BX
 
--- `<<`, `>>`, and `>>>` of a signed value: all x by an amount with an x or z (5.1.12)
+-- `<<`: all x where the amount has an x or z; a z that is shifted comes out as x (5.1.12)
 unfoldable pub shift_left_by : List Bit → List Bit → List Bit
 shift_left_by amount bs = if all_known amount then shift_left (number_of amount) (map operand_bit bs) else replicate (length bs) BX
 
+-- `>>`, likewise (5.1.12)
 unfoldable pub shift_right_by : List Bit → List Bit → List Bit
 shift_right_by amount bs = if all_known amount then shift_right B0 (number_of amount) (map operand_bit bs) else replicate (length bs) BX
 
+-- `>>>` of a signed value, likewise: copies of the upper bit move in (5.1.12)
 unfoldable pub shift_signed_by : List Bit → List Bit → List Bit
 shift_signed_by amount bs =
     if all_known amount then shift_right (upper_bit (map operand_bit bs)) (number_of amount) (map operand_bit bs) else replicate (length bs) BX
