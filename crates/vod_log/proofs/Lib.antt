@@ -1,0 +1,7 @@
+pub mod Readings
+pub mod Appends
+pub mod Stops
+pub mod Bounds
+pub mod Opening
+pub mod Creates
+pub mod Frames

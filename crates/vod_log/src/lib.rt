@@ -1,0 +1,16 @@
+//! A log of records on a deck, of which a stop at any moment leaves whole ones.
+#![tactic(auto)]
+
+mod header;
+mod log;
+mod payloads;
+mod reading;
+mod tail;
+
+pub use header::{Counts, Header, read_header};
+pub use log::{Log, LogFault, Record};
+pub use payloads::{Bytes, payload};
+pub use tail::{AppendFault, Tail};
+
+#[cfg(test)]
+mod tests;
