@@ -4,6 +4,12 @@ use Rattle.vod_bits.proofs.Numbers.{concat-bits}
 use Rattle.vod_bits.specs.Word.{word_bits}
 use Rattle.vod_bits.proofs.Bits.concat.Goals as goal
 
+pub overflow_add-result : goal.overflow_add-result
+overflow_add-result c =
+    let upper : length c.args.self ≡ c.self.inside.width = length-view c.self.inside.width c.self.inside.word c.args.self c.self.view_is in
+    let lower : length c.args.low ≡ c.low.inside.width = length-view c.low.inside.width c.low.inside.word c.args.low c.low.view_is in
+    omega arith
+
 pub overflow_shl-result : goal.overflow_shl-result
 overflow_shl-result c =
     let upper : length c.args.self ≡ c.self.inside.width = length-view c.self.inside.width c.self.inside.word c.args.self c.self.view_is in
