@@ -134,3 +134,43 @@ fn a_stop_in_an_append_leaves_whole_records(rt: HostRuntime) -> Result<(), Fail>
     assert_eq!(rt; whole.bytes(), HEAD);
     Ok(())
 }
+
+// Creates a log, and appends the head to it, twice where the first append fails.
+fn append_again(
+    alloc: Global,
+    deck: &mut MemDeck,
+) -> Result<Option<(AppendFault, Option<AppendFault>)>, LogFault> {
+    let log = Log::open_to_append(alloc, deck)?;
+    let mut tail = log.tail();
+    if !tail.is_continued_by(&HEAD[1..]) {
+        return Err(LogFault::NotALog(1));
+    }
+    match tail.append(deck, &HEAD[1..]) {
+        Ok(()) => Ok(None),
+        Err(fault) => Ok(Some((fault, tail.append(deck, &HEAD[1..]).err()))),
+    }
+}
+
+#[test]
+fn a_failed_append_leaves_whole_records(rt: HostRuntime) -> Result<(), Fail> {
+    let alloc = rt.alloc();
+    let broken = Some((AppendFault::Deck, Some(AppendFault::Broken)));
+    // The four calls of the append: the write and sync of the record, and those of its gate.
+    for (call, most) in [(4, 0), (5, 0), (6, 1), (7, 1)] {
+        let mut failing = deck(alloc, b"", &[call], None)?;
+        assert_eq!(rt;
+            append_again(alloc, &mut failing),
+            Ok(broken),
+            "call {call}"
+        );
+        let mut seen = (1, 0);
+        for pick in 0..4 {
+            let left = failing.outcome(alloc, pick)?;
+            let mut again = deck(alloc, &left.bytes, &[], None)?;
+            let held = Log::open(alloc, &mut again)?.records().len();
+            seen = (seen.0.min(held), seen.1.max(held));
+        }
+        assert_eq!(rt; seen, (0, most), "call {call}");
+    }
+    Ok(())
+}
