@@ -1,0 +1,151 @@
+//! Functions, modules and whole sources (IEEE 1364-2005, clauses 10, 12 and 19).
+use crate::{
+    Always, Assignment, Gate, Ident, InitialStatement, Instances, NetDeclaration,
+    ParameterDeclaration, ParameterPort, Ports, Range, RegDeclaration, Statement,
+    VariableDeclaration,
+};
+use sqlite_items::Items;
+
+/// `input` in the header of a function: whether `signed` stands behind it, its range and its name.
+#[derive(Drop)]
+pub struct FunctionPort {
+    pub place: u32,
+    pub signed: bool,
+    pub range: Option<Range>,
+    pub name: Ident,
+}
+
+/// An input in the header of a function. A further name has the sign and range of the input before it.
+#[derive(Drop)]
+pub enum FunctionInput {
+    Port(FunctionPort),
+    Further(Ident),
+}
+
+/// Inputs or locals that a function declares behind its header.
+#[derive(Drop)]
+pub struct FunctionVariables {
+    pub place: u32,
+    pub signed: bool,
+    pub range: Option<Range>,
+    pub names: Items<Ident>,
+}
+
+/// `input` or `reg` in a function.
+#[derive(Drop)]
+pub enum FunctionDeclaration {
+    Input(FunctionVariables),
+    Reg(FunctionVariables),
+}
+
+/// A function: its result's sign and range, its name, the inputs of its header, if it has one, what it declares, and its
+/// statement (10.4.1).
+#[derive(Drop)]
+pub struct Function {
+    pub automatic: bool,
+    pub signed: bool,
+    pub range: Option<Range>,
+    pub name: Ident,
+    pub inputs: Option<Items<FunctionInput>>,
+    pub declarations: Items<FunctionDeclaration>,
+    pub body: Statement,
+}
+
+/// An item of a module, and the place of its first token.
+#[derive(Drop)]
+pub struct Item {
+    pub place: u32,
+    pub kind: ItemKind,
+}
+
+/// The alternatives of an item.
+#[derive(Drop)]
+pub enum ItemKind {
+    Input(NetDeclaration),
+    Output(NetDeclaration),
+    OutputReg(VariableDeclaration),
+    Wire(VariableDeclaration),
+    Reg(RegDeclaration),
+    Integer(Items<Ident>),
+    Parameter(ParameterDeclaration),
+    Localparam(ParameterDeclaration),
+    Assign(Items<Assignment>),
+    Gate(Gate),
+    Instances(Instances),
+    Function(Function),
+    Initial(InitialStatement),
+    Always(Always),
+}
+
+/// A module: its name, the parameters of its header, its ports and its items (12.1).
+#[derive(Drop)]
+pub struct Module {
+    pub place: u32,
+    pub name: Ident,
+    /// None where no `#` stands behind the name.
+    pub parameters: Option<Items<ParameterPort>>,
+    pub ports: Ports,
+    pub items: Items<Item>,
+    /// How many tokens it has, from `module` to `endmodule`, both counted.
+    pub tokens: u32,
+}
+
+/// The count of a time (19.8).
+#[derive(Clone, Copy, Debug, PartialEq, Eq)]
+pub enum TimeCount {
+    One,
+    Ten,
+    Hundred,
+}
+
+/// The unit of a time: `s`, `ms`, `us`, `ns`, `ps` or `fs`.
+#[derive(Clone, Copy, Debug, PartialEq, Eq)]
+pub enum TimeUnit {
+    S,
+    Ms,
+    Us,
+    Ns,
+    Ps,
+    Fs,
+}
+
+/// A time, as `10 ns`.
+#[derive(Clone, Copy, Debug, PartialEq, Eq)]
+pub struct Time {
+    pub count: TimeCount,
+    pub unit: TimeUnit,
+}
+
+/// What a name without declaration is: refused, or a net (19.2).
+#[derive(Clone, Copy, Debug, PartialEq, Eq)]
+pub enum NetType {
+    None,
+    Wire,
+}
+
+/// The alternatives of a directive: the unit and the precision of times, or the default type of nets.
+#[derive(Clone, Copy, Debug, PartialEq, Eq)]
+pub enum DirectiveKind {
+    Timescale(Time, Time),
+    DefaultNettype(NetType),
+}
+
+/// A directive and its place.
+#[derive(Clone, Copy, Debug, PartialEq, Eq)]
+pub struct Directive {
+    pub place: u32,
+    pub kind: DirectiveKind,
+}
+
+/// A part of a source.
+#[derive(Drop)]
+pub enum SourceItem {
+    Directive(Directive),
+    Module(Module),
+}
+
+/// A source: its directives and modules.
+#[derive(Drop)]
+pub struct Tree {
+    pub items: Items<SourceItem>,
+}
