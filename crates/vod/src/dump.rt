@@ -39,6 +39,7 @@ pub fn dump<D: Source, S: Source, K: Sink>(
     ensures input_counted { S.faults input.old ≤ S.faults input.new }
     ensures out_counted { K.faults out.old ≤ K.faults out.new }
 {
+    // Laws of the readers, which do nothing when they run.
     one_design();
     one_reading();
     let window = match command(words) {

@@ -28,6 +28,7 @@ pub fn started(alloc: Global, design: &Design) -> Result<Queue<'_>, Memory>
 {
     let mut queue = Queue::start(alloc, design)?;
     settle(&mut queue);
+    // Every other order would have ended here too: a law, which does nothing when it runs.
     orders_agree();
     Ok(queue)
 }
@@ -43,5 +44,6 @@ pub fn run_slot(queue: &mut Queue<'_>, vector: &Vector)
 {
     queue.open_slot(vector.moves.as_slice());
     settle(queue);
+    // Every other order would have ended here too: a law, which does nothing when it runs.
     orders_agree();
 }

@@ -47,6 +47,7 @@ pub fn vod<D: Source, S: Source, K: Sink, E: Sink>(
     ensures out_counted { K.faults out.old ≤ K.faults out.new }
     ensures err_counted { E.faults err.old ≤ E.faults err.new }
 {
+    // A law of the reader, which does nothing when it runs.
     one_design();
     match dump(alloc, words, design, input, out) {
         Ok(()) => Status::Ok,

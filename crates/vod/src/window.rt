@@ -172,6 +172,7 @@ pub fn write_window<K: Sink>(
 {
     let mut queue = started(alloc, design)?;
     let mut writer = Writer::new(alloc, design, source)?;
+    // Laws of the queue and of the dump, which do nothing when they run.
     orders_agree();
     orders_end();
     window_is_cut();

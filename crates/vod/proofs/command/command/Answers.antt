@@ -13,6 +13,6 @@ returns c =
     let w0 = map_at string_bytes words 0 c.index-words-0.result [] (omega arith) c.index-words-0.is in
     let w2 = map_at string_bytes words 2 c.index-words-2.result [] (omega arith) c.index-words-2.is in
     let w3 = map_at string_bytes words 3 c.index-words-3.result [] (omega arith) c.index-words-3.is in
-    let dump : get_or (map string_bytes words) 0 [] ≡ codes "dump" = w0 ∙ (bytes_eq-Decides _ _).0 (sym c.is.ensures ∙ c.if-not-is.false) in
+    let dump : get_or (map string_bytes words) 0 [] ≡ codes "dump" = w0 ∙ sym c.as_str.ensures.value ∙ (bytes_eq-Decides _ _).0 (sym c.is.ensures ∙ c.if-not-is.false) in
     four_words (map string_bytes words) c.in_ok-from.from c.in_ok-to.to mapped dump
-    (subst (λ w. IsTime w c.in_ok-from.from) (sym w2) c.in_ok-from.ensures) (subst (λ w. IsTime w c.in_ok-to.to) (sym w3) c.in_ok-to.ensures)
+    (subst (λ w. IsTime w c.in_ok-from.from) (c.as_str-2.ensures.value ∙ sym w2) c.in_ok-from.ensures) (subst (λ w. IsTime w c.in_ok-to.to) (c.as_str-3.ensures.value ∙ sym w3) c.in_ok-to.ensures)
