@@ -3,11 +3,11 @@ ghost use Rattle.vod_io.specs.Faults.{Rose};
 ghost use Rattle.vod_deck.specs.Outcomes.{View, From, Leaves};
 ghost use Rattle.vod_log.specs.declared.log.LogFault.TheVariants.{Deck as DeckFault, NotALog, Memory as NoMemory};
 ghost use Rattle.vod_log.specs.Format.{committed, counts_of};
-ghost use Rattle.vod_log.specs.Opened.{IsLogOf, IsWrongAt, OnNotALog};
+ghost use Rattle.vod_log.specs.Opened.{IsLogOf, ArePlaced, IsWrongAt, OnNotALog};
 ghost use Rattle.vod_log.specs.Tail.{IsUnchanged, IsNear, IsSettled, Opens};
 
-use crate::reading::read_log;
-use crate::tail::write_through;
+use crate::reading::{is_empty, read_log};
+use crate::tail::write_gate;
 use crate::{Counts, Header, Tail};
 use std::alloc::{AllocError, AllocFailed, Global};
 use std::marker::Model;
@@ -77,6 +77,7 @@ impl Log {
     /// Reads the gates and the headers of a log.
     pub fn open<L: Deck>(alloc: Global, deck: &mut L) -> Result<Log, LogFault>
         ensures committed { IfOk result (λ log. L.tells → IsLogOf (committed (L.view deck.old).bytes) log) }
+        ensures placed { IfOk result (λ log. L.tells → ArePlaced (L.view deck.old).bytes log.records) }
         ensures near { IfOk result (λ log. All (λ r. r.at < 2 ^ 63) log.records) }
         ensures wrong { IfErr result (λ fault. OnNotALog fault (λ at. L.tells → IsWrongAt (committed (L.view deck.old).bytes) at)) }
         ensures unchanged { L.tells → IsUnchanged (L.view deck.old) (L.view deck.new) }
@@ -84,8 +85,7 @@ impl Log {
         ensures caused { IsErrOf result DeckFault → Rose (L.view deck.old).faults (L.view deck.new).faults }
     {
         let len = deck.len()?;
-        let log = read_log(alloc, deck, len)?;
-        Ok(log)
+        read_log(alloc, deck, len)
     }
 
     /// Makes the file last, creates the log where it has at most one byte, and reads the gates and
@@ -93,6 +93,7 @@ impl Log {
     pub fn open_to_append<L: Deck>(alloc: Global, deck: &mut L) -> Result<Log, LogFault>
         ensures committed { IfOk result (λ log. L.tells → IsLogOf (committed (L.view deck.new).bytes) log) }
         ensures settled { IfOk result (λ log. L.tells → IsSettled (L.view deck.new) log.gate log.last) }
+        ensures placed { IfOk result (λ log. L.tells → ArePlaced (L.view deck.new).bytes log.records) }
         ensures near { IfOk result (λ log. All (λ r. r.at < 2 ^ 63) log.records) }
         ensures wrong { IfErr result (λ fault. OnNotALog fault (λ at. L.tells → IsWrongAt (committed (L.view deck.old).bytes) at)) }
         ensures kept { L.tells → 1 < length (L.view deck.old).bytes → (L.view deck.new).bytes ≡ (L.view deck.old).bytes }
@@ -103,8 +104,8 @@ impl Log {
     {
         deck.sync()?;
         let len = deck.len()?;
-        if len <= 1 {
-            write_through(deck, 0, &[0])?;
+        if is_empty(len) {
+            write_gate(deck, 0, 0)?;
             return Ok(Log::with(Vec::new(alloc), 0, None));
         }
         let log = read_log(alloc, deck, len)?;
