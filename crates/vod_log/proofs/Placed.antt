@@ -1,5 +1,5 @@
 -- Where the records of a reading stand in the bytes.
-use Rattle.std.proofs.Common.{◌≡◌, ℕ, zero, suc, ◌+◌, ◌-◌, ◌≤◌, ◌<◌, List, [], ◌∷◌, length, take, drop, map, get_or, All, refl, sym, ◌∙◌, ap, subst, arith, length-drop}
+use Rattle.std.proofs.Common.{◌≡◌, ℕ, zero, suc, ◌+◌, ◌<◌, List, [], ◌∷◌, length, take, drop, map, All, refl, sym, ◌∙◌, ap, subst, arith, length-drop}
 use Rattle.std.specs.Prelude.{Bool, true, false, ◌==◌, Option, None, Some, nat_le, if◌then◌else◌}
 use Rattle.std.proofs.lemmas.List.{drop-drop}
 use Rattle.std.proofs.lemmas.List.Elements.{All-map}
@@ -31,14 +31,14 @@ placed-gate whole prev at g rest false (Some h) more there found_is later =
     let place : at + 1 + 48 ≡ at + 49 = omega arith in
     let payload : drop 48 rest ≡ drop (at + 49) whole = ap (λ xs. drop 48 xs) (sym behind_gate) ∙ drop-drop 48 (at + 1) whole ∙ ap (λ n. drop n whole) place in
     all-cons (Stands whole) _ _
-      (record { inside = omega (arith, size, ap length there, length-drop at whole); payload_is = ap (λ xs. take h.length xs) payload })
-      (later h)
+    (record { inside = omega (arith, size, ap length there, length-drop at whole); payload_is = ap (λ xs. take h.length xs) payload })
+    (later h)
 
 placed : (whole : List ℕ) (bytes : List ℕ) (prev : Option Header) (skip at : ℕ) → drop at whole ≡ bytes → All (Stands whole) (reading prev skip at bytes).entries
 placed whole [] prev skip at there = all-none (Stands whole)
 placed whole (g ∷ rest) prev zero at there =
     placed-gate whole prev at g rest (g == 0) (record_at prev rest) (λ h. reading (Some h) (48 + h.length) (at + 1) rest) there refl
-      (λ h. placed whole rest (Some h) (48 + h.length) (at + 1) (sym (drop-drop 1 at whole) ∙ ap (λ xs. drop 1 xs) there))
+    (λ h. placed whole rest (Some h) (48 + h.length) (at + 1) (sym (drop-drop 1 at whole) ∙ ap (λ xs. drop 1 xs) there))
 placed whole (b ∷ rest) prev (suc n) at there =
     placed whole rest prev n (at + 1) (sym (drop-drop 1 at whole) ∙ ap (λ xs. drop 1 xs) there)
 

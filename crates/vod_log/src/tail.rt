@@ -95,7 +95,7 @@ fn header_bytes(frame: &[u8]) -> [u8; 48]
 
 // Whether a frame goes on behind this last header.
 fn continues(last: &Option<Header>, frame: &[u8]) -> bool
-    ensures { IsTrue result → Continues last.now frame.now }
+    ensures { IsTrue result ↔ Continues last.now frame.now }
 {
     if frame.len() < 49 {
         return false;
@@ -117,7 +117,7 @@ fn continues(last: &Option<Header>, frame: &[u8]) -> bool
 impl Tail {
     /// Whether a frame goes on behind this end: a right header, its payload, and a closed gate.
     pub fn is_continued_by(&self, frame: &[u8]) -> bool
-        ensures { IsTrue result → Continues self.now.last frame.now }
+        ensures { IsTrue result ↔ Continues self.now.last frame.now }
     {
         continues(&self.last, frame)
     }

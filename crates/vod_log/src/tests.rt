@@ -38,10 +38,7 @@ fn a_log_is_read(rt: HostRuntime) -> Result<(), Fail> {
     assert_eq!(rt; log.counts(), none);
     assert_eq!(rt; log.records().len(), 1);
     let mut source = Bytes::new(alloc);
-    assert_eq!(rt;
-        payload(&mut one, &log.records()[0], &mut source),
-        Ok(())
-    );
+    assert_eq!(rt; payload(&mut one, &log.records()[0], &mut source), Ok(()));
     assert_eq!(rt;
         source.as_slice(),
         b"\x00\x01\x00\x00\x00\x00\x00\x00module n; endmodule".as_slice()
