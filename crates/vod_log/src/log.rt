@@ -1,4 +1,4 @@
-ghost use Rattle.std.specs.Prelude.{◌≡◌, ℕ, ◌+◌, ◌-◌, ◌^◌, ◌≤◌, ◌<◌, [], ◌∷◌, length, IfOk, All, OnOk, OnErr, IsErrOf, IfErr, None, Some, false};
+ghost use Rattle.std.specs.Prelude.{◌≡◌, ℕ, ◌+◌, ◌*◌, ◌-◌, ◌^◌, ◌≤◌, ◌<◌, [], ◌∷◌, length, IfOk, All, OnOk, OnErr, IsErrOf, IfErr, None, Some, false};
 ghost use Rattle.vod_io.specs.Faults.{Rose};
 ghost use Rattle.vod_deck.specs.Outcomes.{View, From, Leaves};
 ghost use Rattle.vod_log.specs.declared.log.LogFault.TheVariants.{Deck as DeckFault, NotALog, Memory as NoMemory};
@@ -74,7 +74,7 @@ impl Model for Log {
 }
 
 impl Log {
-    /// Reads the gates and the headers of a log.
+    /// Reads the gates and the headers of a log, at most 49 bytes for each record and 49 more.
     pub fn open<L: Deck>(alloc: Global, deck: &mut L) -> Result<Log, LogFault>
         ensures committed { IfOk result (λ log. L.tells → IsLogOf (committed (L.view deck.old).bytes) log) }
         ensures placed { IfOk result (λ log. L.tells → ArePlaced (L.view deck.old).bytes log.records) }
@@ -83,6 +83,7 @@ impl Log {
         ensures unchanged { L.tells → IsUnchanged (L.view deck.old) (L.view deck.new) }
         ensures later { (L.view deck.old).faults ≤ (L.view deck.new).faults }
         ensures caused { IsErrOf result DeckFault → Rose (L.view deck.old).faults (L.view deck.new).faults }
+        ensures most { IfOk result (λ log. (L.view deck.new).bytes_read ≤ (L.view deck.old).bytes_read + 49 * (length log.records + 1)) }
     {
         let len = deck.len()?;
         read_log(alloc, deck, len)
@@ -101,6 +102,7 @@ impl Log {
         ensures stops { L.tells → Leaves (L.view deck.old) (L.view deck.new) (From (L.view deck.old).may_leave (Opens (L.view deck.old).bytes)) }
         ensures later { (L.view deck.old).faults ≤ (L.view deck.new).faults }
         ensures caused { IsErrOf result DeckFault → Rose (L.view deck.old).faults (L.view deck.new).faults }
+        ensures most { IfOk result (λ log. (L.view deck.new).bytes_read ≤ (L.view deck.old).bytes_read + 49 * (length log.records + 1)) }
     {
         deck.sync()?;
         let len = deck.len()?;

@@ -1,4 +1,4 @@
-ghost use Rattle.std.specs.Prelude.{◌≡◌, ℕ, ◌+◌, ◌^◌, ◌≤◌, ◌<◌, ◌==◌, length, nat_le, IfOk, All, IfErr, IfSome, IsErrOf, true};
+ghost use Rattle.std.specs.Prelude.{◌≡◌, ℕ, ◌+◌, ◌*◌, ◌^◌, ◌≤◌, ◌<◌, ◌==◌, length, nat_le, IfOk, All, IfErr, IfSome, IsErrOf, true};
 ghost use Rattle.vod_io.specs.Faults.{Rose};
 ghost use Rattle.vod_log.specs.declared.log.LogFault.TheVariants.{Deck as DeckFault};
 ghost use Rattle.vod_log.specs.Format.{follows, committed};
@@ -32,6 +32,7 @@ fn next_header<L: Deck>(
     ensures unchanged { L.tells → IsUnchanged (L.view deck.old) (L.view deck.new) }
     ensures later { (L.view deck.old).faults ≤ (L.view deck.new).faults }
     ensures caused { IsErrOf result DeckFault → Rose (L.view deck.old).faults (L.view deck.new).faults }
+    ensures most { (L.view deck.new).bytes_read ≤ (L.view deck.old).bytes_read + 49 }
 {
     let mut byte = [0; 1];
     deck.read_at(gate, &mut byte)?;
@@ -67,6 +68,7 @@ pub(crate) fn read_log<L: Deck>(alloc: Global, deck: &mut L, len: u64) -> Result
     ensures unchanged { L.tells → IsUnchanged (L.view deck.old) (L.view deck.new) }
     ensures later { (L.view deck.old).faults ≤ (L.view deck.new).faults }
     ensures caused { IsErrOf result DeckFault → Rose (L.view deck.old).faults (L.view deck.new).faults }
+    ensures most { IfOk result (λ log. (L.view deck.new).bytes_read ≤ (L.view deck.old).bytes_read + 49 * (length log.records + 1)) }
 {
     let mut records = Vec::new(alloc);
     let mut gate = 0;

@@ -1,5 +1,5 @@
 -- One more record was read, or the gate is closed.
-use Rattle.std.proofs.Common.{◌≡◌, ◌^◌, ◌<◌, length, arith}
+use Rattle.std.proofs.Common.{◌≡◌, ◌^◌, ◌<◌, [], ◌∷◌, length, ap, arith, length-append}
 use Rattle.std.specs.Prelude.{Some, None}
 use Rattle.std.proofs.lemmas.List.Elements.{All-push}
 use Rattle.vod_log.specs.declared.log.Record.{Record}
@@ -19,6 +19,7 @@ loop-records-preserved g c = record {
       rw (c.in_ok-push-in-Some.ensures.items) (read-more _ _ _ _ _ (c.loop-records.invariant.told tells) inside next);
   unchanged = λ tells. unchanged-then _ _ _ (c.loop-records.invariant.unchanged tells) (c.next_header.ensures.unchanged tells);
   later = omega (arith, c.loop-records.invariant.later, c.next_header.ensures.later);
+  most = omega (arith, c.loop-records.invariant.most, c.next_header.ensures.most, ap length c.in_ok-push-in-Some.ensures.items, length-append c.loop-records.records.items (record { at = c.loop-records.gate; header = c.in-Some.header } ∷ []));
   inside = (rw (c.in-Some.is) at c.in_ok-header.ensures.fits).1;
   near = near-more _ _ _ c.loop-records.invariant.near (rw (c.in-Some.is) at c.in_ok-header.ensures.fits).0;
   places =
