@@ -36,6 +36,9 @@ module _ (old mid : View) (first : Elapses old mid Stays) where
         record { file = inr (short, zero_one, omega (arith, from.2.file.no_longer, one)); said = from.2.said ∙ ap (λ o. o.said) before.2 },
       ))
 
+pub more-than-one : (n : ℕ) → nat_le n 1 ≡ false → 1 < n
+more-than-one n e = grind (arith, nat_tests)
+
 -- a log of more than one byte ends at a closed gate
 pub opened-ends : (bytes : List ℕ) (log : LogView) → 1 < length bytes → IsLogOf (committed bytes) log → EndsAt bytes log.gate log.last
 opened-ends bytes log long is =

@@ -21,3 +21,9 @@ frame-continues last frame h header long room right closed =
       long = omega (arith, size);
       closed = ap (λ i. get_or frame i 0) (sym place) ∙ closed;
     }
+
+-- and one that goes on is not refused
+pub continues-header : (last : Option Header) (frame : List ℕ) (h : Header) → header_of (take 48 frame) ≡ Some h → Continues last frame → (follows last h ≡ true) × (length frame ≡ 49 + h.length)
+continues-header last frame h header is =
+    let same : frame_header frame ≡ h = (header-begins (begins_header (take 48 frame)) (frame_header frame) h header).1 in
+    (ap (λ x. follows last x) (sym same) ∙ is.right, is.long ∙ ap (λ x. 49 + x.length) same)

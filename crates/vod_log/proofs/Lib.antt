@@ -5,3 +5,4 @@ pub mod Bounds
 pub mod Opening
 pub mod Creates
 pub mod Frames
+pub mod Placed

@@ -9,7 +9,7 @@ use Rattle.vod_log.specs.Opened.{IsLogOf, IsWrongAt, IsNextAt, IsWrongNext, IsRe
 use Rattle.vod_log.specs.Tail.{IsUnchanged}
 use Rattle.vod_log.specs.declared.header.Header.{Header}
 use Rattle.vod_log.specs.declared.log.Record.{Record}
-use Rattle.vod_log.proofs.Readings.{accepted-some, reading-skip}
+use Rattle.vod_log.proofs.Readings.{is_zero, accepted-some, reading-skip}
 
 pub unchanged-then : (old mid new : View) → IsUnchanged old mid → IsUnchanged mid new → IsUnchanged old new
 unchanged-then old mid new first second = record {
@@ -102,17 +102,19 @@ read-wrong bytes records gate last is inside next =
       gate_is = is.gate_is ∙ ap (λ r. r.gate) whole;
     }
 
--- a byte that was read at a gate says whether it is open
-pub gate-open : (bytes buf : List ℕ) (gate : ℕ) → buf ≡ take 1 (drop gate bytes) → (get_or buf 0 0 ≡ 0 → ⊥) → (get_or bytes gate 0 == 0) ≡ false
-gate-open bytes buf gate got not_zero =
+gate-byte : (bytes buf : List ℕ) (gate : ℕ) → buf ≡ take 1 (drop gate bytes) → get_or buf 0 0 ≡ get_or bytes gate 0
+gate-byte bytes buf gate got =
     let one : 0 < 1 = omega arith in
     let place : gate + 0 ≡ gate = omega arith in
-    let same : get_or buf 0 0 ≡ get_or bytes gate 0 = ap (λ xs. get_or xs 0 0) got ∙ get_or-take 1 (drop gate bytes) 0 0 one ∙ get_or-drop gate bytes 0 0 ∙ ap (λ i. get_or bytes i 0) place in
-    let here : get_or bytes gate 0 ≡ 0 → ⊥ = λ e. not_zero (same ∙ e) in
-    open_by (get_or bytes gate 0) here
-  where
-    open_by : (v : ℕ) → (v ≡ 0 → ⊥) → (v == 0) ≡ false
-    open_by v nonzero = grind (arith, nat_tests)
+    ap (λ xs. get_or xs 0 0) got ∙ get_or-take 1 (drop gate bytes) 0 0 one ∙ get_or-drop gate bytes 0 0 ∙ ap (λ i. get_or bytes i 0) place
+
+-- a byte that was read at a gate says whether it is open
+pub gate-open : (bytes buf : List ℕ) (gate : ℕ) → buf ≡ take 1 (drop gate bytes) → (get_or buf 0 0 == 0) ≡ false → (get_or bytes gate 0 == 0) ≡ false
+gate-open bytes buf gate got open_is = ap (λ b. b == 0) (sym (gate-byte bytes buf gate got)) ∙ open_is
+
+-- or closed
+pub gate-closed : (bytes buf : List ℕ) (gate : ℕ) → buf ≡ take 1 (drop gate bytes) → (get_or buf 0 0 == 0) ≡ true → get_or bytes gate 0 ≡ 0
+gate-closed bytes buf gate got closed = sym (gate-byte bytes buf gate got) ∙ is_zero (get_or buf 0 0) closed
 
 -- what was accepted of the header that was read is the record behind the gate
 pub record-read : (bytes buf : List ℕ) (gate len size : ℕ) (last : Option Header) (o : Option Header) → len ≡ length bytes → size ≡ len - gate - 1 →

@@ -1,5 +1,5 @@
 -- What a log that was opened tells of the bytes.
-use Rattle.std.specs.Prelude.{◌≡◌, ℕ, ◌+◌, ◌==◌, true, false, List, ◌++◌, map, drop, slice_index, Option, None, Some}
+use Rattle.std.specs.Prelude.{◌≡◌, ℕ, ◌+◌, ◌<◌, ◌==◌, true, false, List, ◌++◌, All, map, length, take, drop, slice_index, Option, None, Some}
 use Rattle.vod_log.specs.Format.{Entry, Reading, reading, record_at, committed}
 use Rattle.vod_log.specs.declared.header.Header.{Header}
 use Rattle.vod_log.specs.declared.log.Record.{Record}
@@ -15,6 +15,19 @@ pub record LogView : Type 0 where
 -- where the records stand, and their headers
 abbrev pub records_of : List Entry → List Record
 records_of es = map (λ e. e.entry) es
+
+-- a record is inside the bytes: its header, its payload, and the gate behind them
+abbrev pub IsPlaced : List ℕ → Record → Type 0
+IsPlaced bytes r = r.at + 49 + r.header.length < length bytes
+
+-- the bytes behind the header of a record, as many as its payload has
+abbrev pub payload_at : List ℕ → Record → List ℕ
+payload_at bytes r = take r.header.length (drop (r.at + 49) bytes)
+
+-- these records are inside the bytes, and behind their headers stand the payloads that are committed
+pub record ArePlaced (bytes : List ℕ) (records : List Record) : Type 0 where
+  pub inside : All (IsPlaced bytes) records
+  pub payloads : map (payload_at bytes) records ≡ map (λ e. e.payload) (committed bytes).entries
 
 -- a log has the records of a reading that is framed, and ends where it does
 pub record IsLogOf (r : Reading) (log : LogView) : Type 0 where

@@ -1,13 +1,13 @@
-ghost use Rattle.std.specs.Prelude.{◌≡◌, ℕ, ◌+◌, ◌-◌, ◌^◌, ◌≤◌, ◌<◌, [], ◌∷◌, length, IfOk, All, OnOk, OnErr, IsErrOf, IfErr, None, Some, false};
+ghost use Rattle.std.specs.Prelude.{◌≡◌, ℕ, ◌+◌, ◌*◌, ◌-◌, ◌^◌, ◌≤◌, ◌<◌, [], ◌∷◌, length, IfOk, All, OnOk, OnErr, IsErrOf, IfErr, None, Some, false};
 ghost use Rattle.vod_io.specs.Faults.{Rose};
 ghost use Rattle.vod_deck.specs.Outcomes.{View, From, Leaves};
 ghost use Rattle.vod_log.specs.declared.log.LogFault.TheVariants.{Deck as DeckFault, NotALog, Memory as NoMemory};
 ghost use Rattle.vod_log.specs.Format.{committed, counts_of};
-ghost use Rattle.vod_log.specs.Opened.{IsLogOf, IsWrongAt, OnNotALog};
+ghost use Rattle.vod_log.specs.Opened.{IsLogOf, ArePlaced, IsWrongAt, OnNotALog};
 ghost use Rattle.vod_log.specs.Tail.{IsUnchanged, IsNear, IsSettled, Opens};
 
-use crate::reading::read_log;
-use crate::tail::write_through;
+use crate::reading::{is_empty, read_log};
+use crate::tail::write_gate;
 use crate::{Counts, Header, Tail};
 use std::alloc::{AllocError, AllocFailed, Global};
 use std::marker::Model;
@@ -74,18 +74,19 @@ impl Model for Log {
 }
 
 impl Log {
-    /// Reads the gates and the headers of a log.
+    /// Reads the gates and the headers of a log, at most 49 bytes for each record and 49 more.
     pub fn open<L: Deck>(alloc: Global, deck: &mut L) -> Result<Log, LogFault>
         ensures committed { IfOk result (λ log. L.tells → IsLogOf (committed (L.view deck.old).bytes) log) }
+        ensures placed { IfOk result (λ log. L.tells → ArePlaced (L.view deck.old).bytes log.records) }
         ensures near { IfOk result (λ log. All (λ r. r.at < 2 ^ 63) log.records) }
         ensures wrong { IfErr result (λ fault. OnNotALog fault (λ at. L.tells → IsWrongAt (committed (L.view deck.old).bytes) at)) }
         ensures unchanged { L.tells → IsUnchanged (L.view deck.old) (L.view deck.new) }
         ensures later { (L.view deck.old).faults ≤ (L.view deck.new).faults }
         ensures caused { IsErrOf result DeckFault → Rose (L.view deck.old).faults (L.view deck.new).faults }
+        ensures most { IfOk result (λ log. (L.view deck.new).bytes_read ≤ (L.view deck.old).bytes_read + 49 * (length log.records + 1)) }
     {
         let len = deck.len()?;
-        let log = read_log(alloc, deck, len)?;
-        Ok(log)
+        read_log(alloc, deck, len)
     }
 
     /// Makes the file last, creates the log where it has at most one byte, and reads the gates and
@@ -93,6 +94,7 @@ impl Log {
     pub fn open_to_append<L: Deck>(alloc: Global, deck: &mut L) -> Result<Log, LogFault>
         ensures committed { IfOk result (λ log. L.tells → IsLogOf (committed (L.view deck.new).bytes) log) }
         ensures settled { IfOk result (λ log. L.tells → IsSettled (L.view deck.new) log.gate log.last) }
+        ensures placed { IfOk result (λ log. L.tells → ArePlaced (L.view deck.new).bytes log.records) }
         ensures near { IfOk result (λ log. All (λ r. r.at < 2 ^ 63) log.records) }
         ensures wrong { IfErr result (λ fault. OnNotALog fault (λ at. L.tells → IsWrongAt (committed (L.view deck.old).bytes) at)) }
         ensures kept { L.tells → 1 < length (L.view deck.old).bytes → (L.view deck.new).bytes ≡ (L.view deck.old).bytes }
@@ -100,11 +102,12 @@ impl Log {
         ensures stops { L.tells → Leaves (L.view deck.old) (L.view deck.new) (From (L.view deck.old).may_leave (Opens (L.view deck.old).bytes)) }
         ensures later { (L.view deck.old).faults ≤ (L.view deck.new).faults }
         ensures caused { IsErrOf result DeckFault → Rose (L.view deck.old).faults (L.view deck.new).faults }
+        ensures most { IfOk result (λ log. (L.view deck.new).bytes_read ≤ (L.view deck.old).bytes_read + 49 * (length log.records + 1)) }
     {
         deck.sync()?;
         let len = deck.len()?;
-        if len <= 1 {
-            write_through(deck, 0, &[0])?;
+        if is_empty(len) {
+            write_gate(deck, 0, 0)?;
             return Ok(Log::with(Vec::new(alloc), 0, None));
         }
         let log = read_log(alloc, deck, len)?;

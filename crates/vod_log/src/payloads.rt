@@ -1,7 +1,8 @@
-ghost use Rattle.std.specs.Prelude.{◌≡◌, ℕ, ◌+◌, ◌^◌, ◌≤◌, ◌<◌, [], length, take, drop, OnOk, OnErr, IsErrOf};
+ghost use Rattle.std.specs.Prelude.{◌≡◌, ℕ, ◌+◌, ◌^◌, ◌≤◌, ◌<◌, [], length, OnOk, OnErr, IsErrOf};
 ghost use Rattle.vod_io.specs.Faults.{Rose};
 ghost use Rattle.vod_deck.specs.Outcomes.{View, capped};
 ghost use Rattle.vod_log.specs.declared.log.LogFault.TheVariants.{Deck as DeckFault, Memory as NoMemory};
+ghost use Rattle.vod_log.specs.Opened.{payload_at};
 ghost use Rattle.vod_log.specs.Tail.{IsUnchanged};
 
 use crate::{LogFault, Record};
@@ -57,7 +58,7 @@ fn make_room(bytes: &mut Vec<u8>, count: usize) -> Result<(), LogFault>
 pub fn payload<L: Deck>(deck: &mut L, entry: &Record, into: &mut Bytes) -> Result<(), LogFault>
     requires inside { L.tells → entry.now.at + 49 + entry.now.header.length ≤ length (L.view deck.old).bytes }
     requires short { entry.now.at < 2 ^ 63 }
-    ensures payload { OnOk result (L.tells → into.new ≡ take entry.now.header.length (drop (entry.now.at + 49) (L.view deck.old).bytes)) }
+    ensures payload { OnOk result (L.tells → into.new ≡ payload_at (L.view deck.old).bytes entry.now) }
     ensures framed { (at : ℕ) → IsErrOf result (LogFault.NotALog at) → ⊥ }
     ensures unchanged { L.tells → IsUnchanged (L.view deck.old) (L.view deck.new) }
     ensures later { (L.view deck.old).faults ≤ (L.view deck.new).faults }

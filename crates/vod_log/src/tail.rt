@@ -2,6 +2,7 @@ ghost use Rattle.std.specs.Prelude.{◌≡◌, ℕ, ◌+◌, ◌^◌, ◌≤◌,
 ghost use Rattle.vod_io.specs.Faults.{Rose, HasCause};
 ghost use Rattle.vod_deck.specs.Outcomes.{View, Holds, Torn, Writes, From, Only, Elapses, Leaves};
 ghost use Rattle.vod_log.specs.Format.{committed, fields_of};
+ghost use Rattle.vod_log.specs.Opened.{ArePlaced, records_of};
 ghost use Rattle.vod_log.specs.Tail.{Continues, IsNear, IsSettled, HoldsEither, appended, frame_header};
 ghost use Rattle.vod_log.specs.declared.tail.AppendFault.TheVariants.{Deck as DeckFault, Broken};
 
@@ -38,21 +39,40 @@ impl Model for Tail {
     ghost invariant = { λ s. IsNear s.gate s.last };
 }
 
-// Writes bytes and makes them last.
-pub(crate) fn write_through<L: Deck>(deck: &mut L, at: u64, bytes: &[u8]) -> Result<(), Failed>
+// Writes a gate, and makes it last.
+pub(crate) fn write_gate<L: Deck>(deck: &mut L, at: u64, gate: u8) -> Result<(), Failed>
     requires joined { L.tells → at ≤ length (L.view deck.old).bytes }
-    requires short { at + length bytes.now < 2 ^ 63 }
-    ensures written { OnOk result (L.tells → Holds (L.view deck.old).bytes at bytes.now (L.view deck.new).bytes) }
+    requires short { at + 1 < 2 ^ 63 }
+    ensures written { OnOk result (L.tells → Holds (L.view deck.old).bytes at (gate ∷ []) (L.view deck.new).bytes) }
     ensures lasts { OnOk result (L.tells → Only (L.view deck.new).bytes (L.view deck.new).may_leave) }
-    ensures outcomes { L.tells → Elapses (L.view deck.old) (L.view deck.new) (Writes at (length bytes.now)) }
+    ensures outcomes { L.tells → Elapses (L.view deck.old) (L.view deck.new) (Writes at 1) }
     ensures caused { HasCause (L.view deck.old).faults (L.view deck.new).faults result }
     ensures read { (L.view deck.new).bytes_read ≡ (L.view deck.old).bytes_read }
 {
-    match deck.write_at(at, bytes) {
-        Ok(()) => {}
-        Err(Failed) => return Err(Failed),
-    }
+    deck.write_at(at, &[gate])?;
     deck.sync()
+}
+
+// Writes a frame behind a gate, and makes it last.
+fn write_frame<L: Deck>(deck: &mut L, gate: u64, frame: &[u8]) -> Result<(), Failed>
+    requires joined { L.tells → gate < length (L.view deck.old).bytes }
+    requires short { gate + 1 + length frame.now < 2 ^ 63 }
+    ensures written { OnOk result (L.tells → Holds (L.view deck.old).bytes (gate + 1) frame.now (L.view deck.new).bytes) }
+    ensures lasts { OnOk result (L.tells → Only (L.view deck.new).bytes (L.view deck.new).may_leave) }
+    ensures outcomes { L.tells → Elapses (L.view deck.old) (L.view deck.new) (Writes (gate + 1) (length frame.now)) }
+    ensures caused { HasCause (L.view deck.old).faults (L.view deck.new).faults result }
+    ensures read { (L.view deck.new).bytes_read ≡ (L.view deck.old).bytes_read }
+{
+    deck.write_at(gate + 1, frame)?;
+    deck.sync()
+}
+
+// The gate where a log ends whose last record stands at this gate in a frame.
+fn gate_behind(gate: u64, frame: &[u8]) -> u64
+    requires { gate + length frame.now < 2 ^ 63 }
+    ensures { result ≡ gate + length frame.now }
+{
+    gate + frame.len() as u64
 }
 
 // The header that a frame begins with.
@@ -75,7 +95,7 @@ fn header_bytes(frame: &[u8]) -> [u8; 48]
 
 // Whether a frame goes on behind this last header.
 fn continues(last: &Option<Header>, frame: &[u8]) -> bool
-    ensures { IsTrue result → Continues last.now frame.now }
+    ensures { IsTrue result ↔ Continues last.now frame.now }
 {
     if frame.len() < 49 {
         return false;
@@ -97,7 +117,7 @@ fn continues(last: &Option<Header>, frame: &[u8]) -> bool
 impl Tail {
     /// Whether a frame goes on behind this end: a right header, its payload, and a closed gate.
     pub fn is_continued_by(&self, frame: &[u8]) -> bool
-        ensures { IsTrue result → Continues self.now.last frame.now }
+        ensures { IsTrue result ↔ Continues self.now.last frame.now }
     {
         continues(&self.last, frame)
     }
@@ -122,6 +142,7 @@ impl Tail {
         requires settled { L.tells → self.old.broken ≡ false → IsSettled (L.view deck.old) self.old.gate self.old.last }
         ensures held { OnOk result (L.tells → committed (L.view deck.new).bytes ≡ appended (committed (L.view deck.old).bytes) self.old.gate frame.now) }
         ensures settled { OnOk result (L.tells → IsSettled (L.view deck.new) self.new.gate self.new.last) }
+        ensures placed { OnOk result (L.tells → ArePlaced (L.view deck.new).bytes (records_of (committed (L.view deck.new).bytes).entries)) }
         ensures tail { OnOk result (self.new ≡ record { gate = self.old.gate + length frame.now; last = Some (frame_header frame.now); broken = false }) }
         ensures fails { OnErr result (self.new ≡ record self.old { broken = true }) }
         ensures broken { IsErrOf result Broken ↔ (self.old.broken ≡ true) }
@@ -135,21 +156,21 @@ impl Tail {
         if self.broken {
             return Err(AppendFault::Broken);
         }
-        match write_through(deck, self.gate + 1, frame) {
+        match write_frame(deck, self.gate, frame) {
             Ok(()) => {}
             Err(Failed) => {
                 self.broken = true;
                 return Err(AppendFault::Deck);
             }
         }
-        match write_through(deck, self.gate, &[1]) {
+        match write_gate(deck, self.gate, 1) {
             Ok(()) => {}
             Err(Failed) => {
                 self.broken = true;
                 return Err(AppendFault::Deck);
             }
         }
-        self.gate += frame.len() as u64;
+        self.gate = gate_behind(self.gate, frame);
         self.last = Some(header_in(frame));
         Ok(())
     }

@@ -1,4 +1,4 @@
-use crate::{AppendFault, Bytes, Counts, Log, LogFault, Record, payload};
+use crate::{AppendFault, Bytes, Counts, Log, LogFault, payload};
 use std::alloc::{AllocError, Global};
 use std::test::Fail;
 use vod_deck::{Deck, MemDeck, Room};
@@ -24,18 +24,6 @@ fn deck(
     MemDeck::new(alloc, bytes.to_vec(alloc)?, room, fails, stop).map_err(|_| AllocError)
 }
 
-// Reads a payload that is inside the file.
-fn read_payload(deck: &mut MemDeck, entry: &Record, into: &mut Bytes) -> Result<(), LogFault> {
-    let len = deck.bytes().len();
-    if entry.at > 99 || entry.header.length > 99 {
-        return Err(LogFault::NotALog(2));
-    }
-    if entry.at as usize + 49 + entry.header.length as usize > len {
-        return Err(LogFault::NotALog(2));
-    }
-    payload(deck, entry, into)
-}
-
 #[test]
 fn a_log_is_read(rt: HostRuntime) -> Result<(), Fail> {
     let alloc = rt.alloc();
@@ -50,10 +38,7 @@ fn a_log_is_read(rt: HostRuntime) -> Result<(), Fail> {
     assert_eq!(rt; log.counts(), none);
     assert_eq!(rt; log.records().len(), 1);
     let mut source = Bytes::new(alloc);
-    assert_eq!(rt;
-        read_payload(&mut one, &log.records()[0], &mut source),
-        Ok(())
-    );
+    assert_eq!(rt; payload(&mut one, &log.records()[0], &mut source), Ok(()));
     assert_eq!(rt;
         source.as_slice(),
         b"\x00\x01\x00\x00\x00\x00\x00\x00module n; endmodule".as_slice()

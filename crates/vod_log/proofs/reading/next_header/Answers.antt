@@ -12,7 +12,7 @@ returns-then-size-le48-clause-wrong g c = (
       let size : length (drop (c.args.gate + 1) (g.L.Deck.view c.args.deck.now).bytes) ≤ 48 =
       omega (arith, length-drop (c.args.gate + 1) (g.L.Deck.view c.args.deck.now).bytes, c.requires.total tells, c.if-size-le48.true) in
       record {
-        open_is = gate-open _ _ c.args.gate (c.in_ok-read_at.ensures.got tells) c.if-byte-eq0.false;
+        open_is = gate-open _ _ c.args.gate (c.in_ok-read_at.ensures.got tells) (sym c.is_closed.ensures ∙ c.if-is_closed.false);
         wrong = record-none _ _ size;
       },
 )
@@ -24,7 +24,7 @@ returns-in-Some-clause-fits g c =
 
 pub returns-in-Some-clause-next : goal.returns-in-Some-clause-next
 returns-in-Some-clause-next g c = λ tells. (
-  gate-open _ _ c.args.gate (c.in_ok-read_at.ensures.got tells) c.if-byte-eq0.false,
+  gate-open _ _ c.args.gate (c.in_ok-read_at.ensures.got tells) (sym c.is_closed.ensures ∙ c.if-is_closed.false),
   record-read _ _ c.args.gate c.args.len _ c.args.last.now _ (c.requires.total tells) refl
       (c.in_ok-read_at-2.ensures.got tells ∙ ap (λ xs. take 48 (drop (c.args.gate + 1) xs)) (c.read_at.ensures.bytes tells)) c.accept.ensures
       ∙ c.in-Some.is,
@@ -39,7 +39,7 @@ pub returns-in-None-clause-wrong : goal.returns-in-None-clause-wrong
 returns-in-None-clause-wrong g c = (
   refl,
   λ tells. record {
-    open_is = gate-open _ _ c.args.gate (c.in_ok-read_at.ensures.got tells) c.if-byte-eq0.false;
+    open_is = gate-open _ _ c.args.gate (c.in_ok-read_at.ensures.got tells) (sym c.is_closed.ensures ∙ c.if-is_closed.false);
     wrong = record-read _ _ c.args.gate c.args.len _ c.args.last.now _ (c.requires.total tells) refl
         (c.in_ok-read_at-2.ensures.got tells ∙ ap (λ xs. take 48 (drop (c.args.gate + 1) xs)) (c.read_at.ensures.bytes tells)) c.accept.ensures
         ∙ c.in-None.is;
