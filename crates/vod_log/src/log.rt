@@ -28,6 +28,7 @@ pub enum LogFault {
     Deck,
     /// The record behind the gate at this place is wrong.
     NotALog(u64),
+    /// There was no memory.
     Memory,
 }
 
@@ -54,6 +55,7 @@ impl<T: Drop> From<AllocFailed<T>> for LogFault {
         LogFault::Memory
     }
 }
+
 /// A log that was opened.
 #[derive(Debug, Drop)]
 pub struct Log {
@@ -155,7 +157,6 @@ impl Log {
     pub fn tail(&self) -> Tail
         ensures { result ≡ record { gate = self.now.gate; last = self.now.last; broken = false } }
     {
-        let _gate = self.gate;
         Tail::at(self.gate, self.last)
     }
 }
