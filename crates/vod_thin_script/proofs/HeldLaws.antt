@@ -1,7 +1,7 @@
 -- What the inputs hold, against what earlier vectors assigned.
-use Rattle.std.proofs.Common.{◌≡◌, ◌≢◌, ℕ, zero, suc, ◌+◌, ◌<◌, ◌≤◌, arith, List, [], ◌∷◌, ◌++◌, length, get_or, set, slice_get, Option, Some, None, refl, sym, ap, ◌∙◌, subst, true, false, not, ◌==◌, ◌&&◌, ◌||◌, Bool, IsTrue, inl, inr, All, filter, replicate, append_assoc, append-nil, length-set, get_or-set_same, get_or-set_other, cond, if◌then◌else◌}
+use Rattle.std.proofs.Common.{◌≡◌, ℕ, zero, suc, ◌+◌, ◌<◌, arith, List, [], ◌∷◌, ◌++◌, length, get_or, set, slice_get, refl, sym, ap, ◌∙◌, subst, true, false, not, ◌==◌, ◌&&◌, ◌||◌, Bool, IsTrue, inl, inr, All, replicate, append_assoc, append-nil, length-set, get_or-set_same, get_or-set_other, cond, if◌then◌else◌}
 use Rattle.std.proofs.lemmas.Bool.{cases_eq, ne_eqb}
-use Rattle.std.proofs.lemmas.Bool.Decides.{nat_tests, Decides-eqb}
+use Rattle.std.proofs.lemmas.Bool.Decides.{Decides-eqb}
 use Rattle.std.proofs.lemmas.List.{get_or-replicate, length-replicate}
 use Rattle.std.proofs.lemmas.List.Elements.{All-head, All-tail}
 use Rattle.std.specs.List.{list_all, enumerate_from, zip}
@@ -10,7 +10,7 @@ use Rattle.vod_design.specs.declared.thin.Bit.TheVariants as bit
 use Rattle.vod_design.specs.declared.thin.Class.{Class}
 use Rattle.vod_design.specs.declared.thin.Input.{Input}
 use Rattle.vod_design.specs.declared.thin.Move.{Move}
-use Rattle.vod_design.specs.Bits.{same_bit, value_at, is_known}
+use Rattle.vod_design.specs.Bits.{same_bit, is_known}
 use Rattle.vod_design.specs.Netlist.{Netlist, has, is_clock}
 use Rattle.vod_design.specs.Vectors.{assigned, holds, changes, has_class, gives_data}
 use Rattle.vod_thin_script.specs.Held.{value_from, AreValues, written, leaves, same_class, is_of, change_only, suits}

@@ -1,5 +1,5 @@
 -- The vectors so far, and the next one, are the first of all that the script can have.
-use Rattle.std.proofs.Common.{◌≡◌, ◌∙◌, sym, refl, ap, subst, arith, Err, length, List, ℕ}
+use Rattle.std.proofs.Common.{◌∙◌, sym, ap, subst, arith, Err}
 use Rattle.vod_design.specs.Netlist.{Netlist}
 use Rattle.vod_design.specs.declared.thin.Vector.{Vector}
 use Rattle.vod_thin_script.specs.Held.{written}
