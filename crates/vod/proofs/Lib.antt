@@ -2,6 +2,6 @@ pub mod StepsLaws
 pub mod WindowLaws
 pub mod RequestLaws
 pub mod CommandLaws
-pub mod InsideLaws
+pub mod SourceLaws
 pub mod AnswerLaws
 pub mod CausedLaws

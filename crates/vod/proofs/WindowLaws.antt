@@ -74,11 +74,6 @@ passes_over d s t vectors from (v ∷ behind) passes over = record { skips = ski
         ∙ ap (λ w. opening_text from t.val ++ rest_text t.val from (moments (v ∷ behind) w) to) (sym split.whole) in
         (at.0, at.1, λ to. at.2 to ∙ opens to)
 
--- what holds of each of some vectors holds of each but the first
-pub all_behind : (P : Vector → Type 0) (xs rest : List Vector) (v : Vector) → xs ≡ v ∷ rest → All P xs → All P rest
-all_behind P xs rest v whole all = λ k d h.
-    let at = subst (λ ys. All P ys) whole all in at (suc k) d (omega arith)
-
 pub follows_start : (d : Netlist) (s : State) (printed : ℕ) (vectors : List Vector) (to : ℕ) (before : Option (List ℕ)) → Follows d s printed vectors to before s printed vectors before
 follows_start d s printed vectors to before = record { follows = λ ends h. (ends, [], h, sym (appended-nothing before), refl) }
 
@@ -144,6 +139,3 @@ follows_stops result d s t u printed to last vectors before mid now v rest behin
     subst (λ w. Written result before now w) (sym text)
     (Written-stopped before now (at.1 ++ (piece ++ behind_text)) result failed
     (stopped_in_second before mid now at.1 (piece ++ behind_text) at.3 (stopped_in_first mid now piece behind_text part)))
-
-pub all_first : (P : Vector → Type 0) (xs rest : List Vector) (v : Vector) → xs ≡ v ∷ rest → All P xs → P v
-all_first P xs rest v whole all = let at = subst (λ ys. All P ys) whole all in at 0 v (omega arith)

@@ -2,12 +2,11 @@
 use Rattle.std.specs.Prelude.{◌≡◌, ◌⊎◌, ℕ, List, Option, Result, Ok, Err}
 use Rattle.vod_io.specs.Told.{Tells}
 use Rattle.vod_io.specs.Faults.{Rose}
-use Rattle.vod_design.specs.declared.thin.Vector.{Vector}
 use Rattle.vod_design.specs.Netlist.{Netlist}
-use Rattle.vod_thin.specs.Thin.{IsThin}
-use Rattle.vod_thin_script.specs.Script.{IsScript}
-use Rattle.vod.specs.Command.{IsCommand}
-use Rattle.vod.specs.Request.{Request, Asks, IsWritten, IsBegun}
+use Rattle.vod_thin_script.specs.Script as script
+use Rattle.vod.specs.Command.{IsDump}
+use Rattle.vod.specs.Sources.{IsSource, IsRefusedSource}
+use Rattle.vod.specs.Request.{Request, Asks, dump_of, IsWritten, IsBegun}
 use Rattle.vod.specs.declared.status.Part.TheVariants as part
 use Rattle.vod.specs.declared.status.Stop.{Stop}
 use Rattle.vod.specs.declared.status.Stop.TheVariants as stop
@@ -34,48 +33,51 @@ pub record World : Type 0 where
 
 -- the words are a command
 abbrev pub HasCommand : World → Type 0
-HasCommand w = (a : ℕ) × (b : ℕ) × IsCommand w.words a b
+HasCommand w = IsDump w.words
 
 abbrev pub HasNoCommand : World → Type 0
-HasNoCommand w = (a b : ℕ) → IsCommand w.words a b → ⊥
+HasNoCommand w = IsDump w.words → ⊥
 
--- the source, where it is told, is of the thin form
+-- the source, where it is told, is of the thin form; it is refused at a place
 abbrev pub HasDesign : World → Type 0
-HasDesign w = Tells w.source (λ source. (d : Netlist) × IsThin source d)
+HasDesign w = Tells w.source (λ source. (d : Netlist) × IsSource source d)
 
-abbrev pub HasNoDesign : World → Type 0
-HasNoDesign w = Tells w.source (λ source. (d : Netlist) → IsThin source d → ⊥)
+abbrev pub HasNoDesign : World → ℕ → Type 0
+HasNoDesign w place = Tells w.source (λ source. IsRefusedSource source place)
 
--- the script, where it and the source are told, is one of the source's design
-abbrev pub HasVectors : World → Type 0
-HasVectors w = Tells w.source (λ source. Tells w.script (λ script. (d : Netlist) × (vs : List Vector) × IsThin source d × IsScript d script vs))
-
-abbrev pub HasNoVectors : World → Type 0
-HasNoVectors w = Tells w.source (λ source. Tells w.script (λ script. (d : Netlist) (vs : List Vector) → IsThin source d → IsScript d script vs → ⊥))
+-- the script, where it and the source are told, is refused at a line
+abbrev pub HasNoVectors : World → ℕ → Type 0
+HasNoVectors w line = Tells w.source (λ source. Tells w.script (λ text. (d : Netlist) × IsSource source d × script.IsRefused d text line))
 
 -- what is asked for, where source and script are told
 abbrev pub AsksFor : World → (Request → Type 0) → Type 0
-AsksFor w P = Tells w.source (λ source. Tells w.script (λ script. (r : Request) × Asks w.words source script r × P r))
-
-abbrev pub AsksNothing : World → Type 0
-AsksNothing w = Tells w.source (λ source. Tells w.script (λ script. (r : Request) → Asks w.words source script r → ⊥))
+AsksFor w P = Tells w.source (λ source. Tells w.script (λ text. (r : Request) × Asks source text r × P r))
 
 -- each answer with its cause
 abbrev pub Answers : World → Result (Unit {0}) Stop → Type 0
-Answers w (Ok done) = HasCommand w × HasDesign w × AsksFor w (λ r. IsWritten r w.before w.after)
+Answers w (Ok done) = HasCommand w × HasDesign w × AsksFor w (λ r. IsWritten r (dump_of r) w.before w.after)
 Answers w (Err stop.Usage) = HasNoCommand w
-Answers w (Err (stop.NotYet part.Design)) = HasCommand w × HasNoDesign w
-Answers w (Err (stop.NotYet part.Script)) = HasCommand w × HasDesign w × HasNoVectors w
-Answers w (Err (stop.NotYet part.Window)) = HasCommand w × HasDesign w × HasVectors w × AsksNothing w
+Answers w (Err (stop.NotYet part.Design place)) = HasCommand w × HasNoDesign w place
+Answers w (Err (stop.NotYet part.Script line)) = HasCommand w × HasDesign w × HasNoVectors w line
 Answers w (Err stop.Read) = HasCommand w × (IsRisen w.design_faults ⊎ (HasDesign w × IsRisen w.input_faults))
-Answers w (Err stop.Write) = HasCommand w × HasDesign w × IsRisen w.out_faults × AsksFor w (λ r. IsBegun r w.before w.after)
-Answers w (Err stop.Memory) = HasCommand w × ((w.after ≡ w.before) ⊎ AsksFor w (λ r. IsBegun r w.before w.after))
+Answers w (Err stop.Write) = HasCommand w × HasDesign w × IsRisen w.out_faults × AsksFor w (λ r. IsBegun r (dump_of r) w.before w.after)
+Answers w (Err stop.Memory) = HasCommand w × ((w.after ≡ w.before) ⊎ AsksFor w (λ r. IsBegun r (dump_of r) w.before w.after))
 
 -- whether nothing was written with a stop
 abbrev pub IsQuiet : Result (Unit {0}) Stop → Type 0
 IsQuiet (Ok done) = ⊥
 IsQuiet (Err stop.Usage) = Unit {0}
-IsQuiet (Err (stop.NotYet p)) = Unit {0}
+IsQuiet (Err (stop.NotYet p place)) = Unit {0}
 IsQuiet (Err stop.Read) = Unit {0}
 IsQuiet (Err stop.Write) = ⊥
 IsQuiet (Err stop.Memory) = ⊥
+
+-- a stop at the design, before the input was looked at
+abbrev pub IsNoDesign : Result (Unit {0}) Stop → Type 0
+IsNoDesign (Ok done) = ⊥
+IsNoDesign (Err stop.Usage) = ⊥
+IsNoDesign (Err (stop.NotYet part.Design place)) = Unit {0}
+IsNoDesign (Err (stop.NotYet part.Script line)) = ⊥
+IsNoDesign (Err stop.Read) = ⊥
+IsNoDesign (Err stop.Write) = ⊥
+IsNoDesign (Err stop.Memory) = ⊥

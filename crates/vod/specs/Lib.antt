@@ -1,8 +1,8 @@
 pub mod Moments
 pub mod Command
+pub mod Sources
 pub mod Request
 pub mod Progress
-pub mod Windows
 pub mod Phases
 pub mod Ends
 pub mod Answer

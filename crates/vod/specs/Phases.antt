@@ -1,4 +1,5 @@
--- How the faults of readers are those of a phase.
+-- How the faults of readers are those of a phase, and what a fault says of a source.
+use Rattle.std.specs.Prelude.{ℕ, List, ⊤}
 use Rattle.vod_io.specs.declared.reading.FillFault as fill
 use Rattle.vod_io.specs.declared.reading.FillFault.TheVariants as fills
 use Rattle.vod_thin_script.specs.declared.ScriptFault as script
@@ -10,21 +11,34 @@ use Rattle.vod.specs.declared.status.Stop.{Stop}
 use Rattle.vod.specs.declared.status.Stop.TheVariants as stop
 use Rattle.vod.specs.declared.phase.PhaseFault.{PhaseFault}
 use Rattle.vod.specs.declared.phase.PhaseFault.TheVariants.{Read, Refused, Memory}
+use Rattle.vod.specs.declared.window.WindowFault.{WindowFault}
+use Rattle.vod.specs.declared.window.WindowFault.TheVariants as windows
 
 abbrev pub fill_fault : fill.FillFault → PhaseFault
 fill_fault fills.Read = Read
 fill_fault fills.Memory = Memory
 
 abbrev pub script_fault : script.ScriptFault → PhaseFault
-script_fault scripts.Refused = Refused
+script_fault (scripts.Refused line) = Refused line
 script_fault scripts.Memory = Memory
 
 abbrev pub thin_fault : thin.ThinFault → PhaseFault
-thin_fault thins.Refused = Refused
+thin_fault (thins.At place) = Refused place
 thin_fault thins.Memory = Memory
 
 -- the stop of a phase that reads a part
 abbrev pub stop_of : PhaseFault → Part → Stop
 stop_of Read part = stop.Read
-stop_of Refused part = stop.NotYet part
+stop_of (Refused place) part = stop.NotYet part place
 stop_of Memory part = stop.Memory
+
+-- what holds of the place at which a phase refuses
+abbrev pub Refuses : PhaseFault → (ℕ → Type 0) → Type 0
+Refuses Read P = ⊤
+Refuses (Refused place) P = P place
+Refuses Memory P = ⊤
+
+-- the stop of a command that writes a window
+abbrev pub window_stop : WindowFault → Stop
+window_stop windows.Write = stop.Write
+window_stop windows.Memory = stop.Memory

@@ -1,10 +1,12 @@
 -- A run as far as the program has taken it.
-use Rattle.std.specs.Prelude.{◌≡◌, ℕ, ◌<◌, List, ◌∷◌, ◌++◌, Option}
+use Rattle.std.specs.Prelude.{◌≡◌, ℕ, ◌<◌, List, ◌∷◌, ◌++◌, Option, All}
 use Rattle.vod_io.specs.Told.{appended}
+use Rattle.vod_design.specs.declared.thin.Move.{Move}
 use Rattle.vod_design.specs.declared.thin.Vector.{Vector}
 use Rattle.vod_design.specs.Netlist.{Netlist, IsAccepted}
+use Rattle.vod_design.specs.Vectors.{IsVector, AreUnmixed}
 use Rattle.vod_queue.specs.State.{State, IsShaped, IsResting}
-use Rattle.vod_queue.specs.Run.{IsSettled, AreSlots}
+use Rattle.vod_queue.specs.Run.{IsSettled, AreSlots, HasTaken}
 use Rattle.vod_vcd.specs.Text.{opening_text}
 use Rattle.vod_vcd.specs.Stream.{window_text, rest_text}
 use Rattle.vod.specs.Moments.{moments}
@@ -15,6 +17,15 @@ pub record IsReady (d : Netlist) (s : State) : Type 0 where
   pub shaped : IsShaped d s
   pub settled : IsSettled d s
   pub rests : IsResting s
+
+-- the end of a slot, behind which these vectors may come: its inputs have what some earlier assignments gave them, and what
+-- each vector changes then is all of clocks or all of data
+pub record Awaits (d : Netlist) (s : State) (vectors : List Vector) : Type 0 where
+  pub ready : IsReady d s
+  pub given : List Move
+  pub taken : HasTaken d given s
+  pub forms : All (IsVector d) vectors
+  pub unmixed : AreUnmixed d given vectors
 
 -- whatever ends the slots of the vectors have, those of the rest go on from t, and the window from the given time opens at t
 pub record Skips (d : Netlist) (s : State) (vectors : List Vector) (from : ℕ) (t : State) (rest : List Vector) : Type 0 where

@@ -1,19 +1,17 @@
-//! The command `dump DESIGN A B`.
+//! The command `dump DESIGN`.
 ghost use Rattle.std.specs.Prelude.{◌≡◌, ◌≤◌, Err, map, string_bytes};
-ghost use Rattle.vod.specs.Answer.{World, Count, Answers, IsQuiet};
-ghost use Rattle.vod.specs.declared.status.Part.TheVariants as part;
+ghost use Rattle.vod.specs.Answer.{World, Count, Answers, IsQuiet, IsNoDesign};
 
-use crate::command::command;
-use crate::inside::is_inside;
+use crate::command::is_dump;
 use crate::phase::{reading_of, vectors_of};
 use crate::status::{Part, Stop};
-use crate::window::write_window;
+use crate::window::write_dump;
 use std::alloc::Global;
 use vod_io::{Sink, Source};
 use vod_thin::one_design;
 use vod_thin_script::one_reading;
 
-/// Writes the window that the words ask for, of the design over the vectors of the input.
+/// Writes the full dump of the design over the vectors of the input.
 pub fn dump<D: Source, S: Source, K: Sink>(
     alloc: Global,
     words: &[String],
@@ -34,7 +32,7 @@ pub fn dump<D: Source, S: Source, K: Sink>(
     ensures quiet { IsQuiet result → out.new ≡ out.old }
     ensures unread { result ≡ Err Stop.Usage → design.new ≡ design.old }
     ensures no_input { result ≡ Err Stop.Usage → input.new ≡ input.old }
-    ensures no_script { result ≡ Err (Stop.NotYet part.Design) → input.new ≡ input.old }
+    ensures no_script { IsNoDesign result → input.new ≡ input.old }
     ensures design_counted { D.faults design.old ≤ D.faults design.new }
     ensures input_counted { S.faults input.old ≤ S.faults input.new }
     ensures out_counted { K.faults out.old ≤ K.faults out.new }
@@ -42,10 +40,9 @@ pub fn dump<D: Source, S: Source, K: Sink>(
     // Laws of the readers, which do nothing when they run.
     one_design();
     one_reading();
-    let window = match command(words) {
-        Some(window) => window,
-        None => return Err(Stop::Usage),
-    };
+    if !is_dump(words) {
+        return Err(Stop::Usage);
+    }
     let reading = match reading_of(alloc, design) {
         Ok(reading) => reading,
         Err(fault) => return Err(fault.stop(Part::Design)),
@@ -54,18 +51,8 @@ pub fn dump<D: Source, S: Source, K: Sink>(
         Ok(vectors) => vectors,
         Err(fault) => return Err(fault.stop(Part::Script)),
     };
-    if !is_inside(vectors.as_slice(), window) {
-        return Err(Stop::NotYet(Part::Window));
-    }
     let source = reading.source.as_slice();
-    match write_window(
-        alloc,
-        source,
-        &reading.design,
-        vectors.as_slice(),
-        window,
-        out,
-    ) {
+    match write_dump(alloc, source, &reading.design, vectors.as_slice(), out) {
         Ok(()) => Ok(()),
         Err(fault) => Err(fault.stop()),
     }

@@ -3,7 +3,6 @@
 
 mod command;
 mod dump;
-mod inside;
 mod phase;
 mod run;
 mod status;

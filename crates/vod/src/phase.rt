@@ -1,19 +1,17 @@
 //! The phases of a command: the bytes of a source, its design, and the vectors of a script.
-ghost use Rattle.std.specs.Prelude.{◌≡◌, ◌≤◌, ◌<◌, ◌^◌, ℕ, List, Err, length, IfOk};
+ghost use Rattle.std.specs.Prelude.{◌≡◌, ◌≤◌, ◌^◌, ℕ, List, Err, take, nat_lt, length, IfOk, IfErr};
 ghost use Rattle.vod_io.specs.Told.{Told, Tells};
 ghost use Rattle.vod_io.specs.Faults.{Rose};
-ghost use Rattle.vod_design.specs.declared.thin.Vector as vector;
-ghost use Rattle.vod.specs.Phases.{stop_of};
-ghost use Rattle.vod_design.specs.Netlist.{Netlist};
-ghost use Rattle.vod_thin.specs.Thin.{IsThin};
 ghost use Rattle.vod_design.specs.Names.{HasPlainNames};
 ghost use Rattle.vod_design.specs.Vectors.{IsLawful};
-ghost use Rattle.vod_thin_script.specs.Script.{IsScript};
+ghost use Rattle.vod_thin_script.specs.Script.{IsScript, IsRefused};
+ghost use Rattle.vod.specs.Sources.{IsSource, IsRefusedSource};
+ghost use Rattle.vod.specs.Phases.{stop_of, Refuses};
 
 use crate::status::{Part, Stop};
 use std::alloc::Global;
 use vod_design::thin::{Design, Vector};
-use vod_io::{FillFault, Source, fill};
+use vod_io::{FillFault, Filled, Source, fill};
 use vod_thin::{ThinFault, read_thin};
 use vod_thin_script::{ScriptFault, read_script};
 
@@ -25,8 +23,8 @@ const MOST_BYTES: usize = 1_048_576;
 pub enum PhaseFault {
     /// The source failed.
     Read,
-    /// What was read isn't of the form.
-    Refused,
+    /// What was read isn't of the form, at a place.
+    Refused(u64),
     /// There was no memory.
     Memory,
 }
@@ -51,7 +49,7 @@ impl From<ScriptFault> for PhaseFault {
 
     fn from(fault: ScriptFault) -> PhaseFault {
         match fault {
-            ScriptFault::Refused => PhaseFault::Refused,
+            ScriptFault::Refused { line } => PhaseFault::Refused(line),
             ScriptFault::Memory => PhaseFault::Memory,
         }
     }
@@ -64,7 +62,7 @@ impl From<ThinFault> for PhaseFault {
 
     fn from(fault: ThinFault) -> PhaseFault {
         match fault {
-            ThinFault::Refused => PhaseFault::Refused,
+            ThinFault::At(place) => PhaseFault::Refused(u64::from(place)),
             ThinFault::Memory => PhaseFault::Memory,
         }
     }
@@ -77,7 +75,7 @@ impl PhaseFault {
     {
         match self {
             PhaseFault::Read => Stop::Read,
-            PhaseFault::Refused => Stop::NotYet(part),
+            PhaseFault::Refused(place) => Stop::NotYet(part, place),
             PhaseFault::Memory => Stop::Memory,
         }
     }
@@ -90,19 +88,17 @@ pub struct Reading {
     pub design: Design,
 }
 
-/// All bytes of a source, which is refused where it has more than 1,048,576.
-fn bytes_of<S: Source>(alloc: Global, source: &mut S) -> Result<Vec<u8>, PhaseFault>
-    ensures told { IfOk result (λ bytes. Told (S.left source.old) bytes.items) }
-    ensures short { IfOk result (λ bytes. length bytes.items ≤ 2 ^ 20) }
-    ensures refused { result ≡ Err PhaseFault.Refused → Tells (S.left source.old) (λ text. 2 ^ 20 < length text) }
+/// The first 1,048,576 bytes of a source, and whether there are more.
+fn bytes_of<S: Source>(alloc: Global, source: &mut S) -> Result<Filled, PhaseFault>
+    ensures few { IfOk result (λ filled. length filled.bytes.items ≤ 2 ^ 20) }
+    ensures front { IfOk result (λ filled. Tells (S.left source.old) (λ text. filled.bytes.items ≡ take (2 ^ 20) text)) }
+    ensures more { IfOk result (λ filled. Tells (S.left source.old) (λ text. filled.more ≡ nat_lt (2 ^ 20) (length text))) }
+    ensures refused { IfErr result (λ fault. Refuses fault (λ _. ⊥)) }
     ensures counted { S.faults source.old ≤ S.faults source.new }
     ensures caused { result ≡ Err PhaseFault.Read → Rose (S.faults source.old) (S.faults source.new) }
 {
     let filled = fill(alloc, source, MOST_BYTES)?;
-    if filled.more {
-        return Err(PhaseFault::Refused);
-    }
-    Ok(filled.bytes)
+    Ok(filled)
 }
 
 /// The vectors of a script.
@@ -114,25 +110,31 @@ pub fn vectors_of<S: Source>(
     requires { HasPlainNames design.now }
     ensures vectors { IfOk result (λ vectors. Tells (S.left script.old) (λ text. IsScript design.now text vectors.items)) }
     ensures lawful { IfOk result (λ vectors. IsLawful design.now vectors.items) }
-    ensures refused { result ≡ Err PhaseFault.Refused → Tells (S.left script.old) (λ text. (vectors : List vector.Vector) → IsScript design.now text vectors → ⊥) }
+    ensures refused { IfErr result (λ fault. Refuses fault (λ line. Tells (S.left script.old) (λ text. IsRefused design.now text line))) }
     ensures counted { S.faults script.old ≤ S.faults script.new }
     ensures caused { result ≡ Err PhaseFault.Read → Rose (S.faults script.old) (S.faults script.new) }
 {
     let text = bytes_of(alloc, script)?;
-    let vectors = read_script(alloc, design, text.as_slice())?;
+    if text.more {
+        return Err(PhaseFault::Refused(0));
+    }
+    let vectors = read_script(alloc, design, text.bytes.as_slice())?;
     Ok(vectors)
 }
 
 /// The source of a design, read to its end, and its design.
 pub fn reading_of<D: Source>(alloc: Global, source: &mut D) -> Result<Reading, PhaseFault>
     ensures told { IfOk result (λ reading. Told (D.left source.old) reading.source.items) }
-    ensures thin { IfOk result (λ reading. IsThin reading.source.items reading.design) }
+    ensures source { IfOk result (λ reading. IsSource reading.source.items reading.design) }
     ensures plain { IfOk result (λ reading. HasPlainNames reading.design) }
-    ensures refused { result ≡ Err PhaseFault.Refused → Tells (D.left source.old) (λ text. (d : Netlist) → IsThin text d → ⊥) }
+    ensures refused { IfErr result (λ fault. Refuses fault (λ place. Tells (D.left source.old) (λ text. IsRefusedSource text place))) }
     ensures counted { D.faults source.old ≤ D.faults source.new }
     ensures caused { result ≡ Err PhaseFault.Read → Rose (D.faults source.old) (D.faults source.new) }
 {
-    let source = bytes_of(alloc, source)?;
-    let design = read_thin(alloc, source.as_slice())?;
-    Ok(Reading { source, design })
+    let text = bytes_of(alloc, source)?;
+    let design = read_thin(alloc, text.bytes.as_slice(), text.more)?;
+    Ok(Reading {
+        source: text.bytes,
+        design,
+    })
 }

@@ -1,13 +1,14 @@
 //! A run of the event queue, slot by slot.
-ghost use Rattle.std.specs.Prelude.{◌≡◌, IfOk};
-ghost use Rattle.vod_design.specs.Vectors.{IsVector};
+ghost use Rattle.std.specs.Prelude.{◌≡◌, ◌∷◌, [], List, IfOk};
+ghost use Rattle.vod_design.specs.declared.thin.Vector.{Vector};
+ghost use Rattle.vod_design.specs.Vectors.{IsLawful};
 ghost use Rattle.vod_queue.specs.State.{State, start_of};
 ghost use Rattle.vod_queue.specs.Run.{Completes, IsSlot};
-ghost use Rattle.vod.specs.Progress.{IsReady};
+ghost use Rattle.vod.specs.Progress.{Awaits};
 
 use std::alloc::Global;
 use vod_design::thin::{Design, Vector};
-use vod_queue::{Memory, Queue, orders_agree};
+use vod_queue::{Memory, Queue, inputs_take_moves, orders_agree};
 
 /// Takes events until nothing is left.
 fn settle(queue: &mut Queue<'_>)
@@ -22,28 +23,29 @@ fn settle(queue: &mut Queue<'_>)
 /// The queue of a design at the end of slot 0.
 pub fn started(alloc: Global, design: &Design) -> Result<Queue<'_>, Memory>
     ensures design { IfOk result (λ queue. queue.design ≡ design.now) }
-    ensures ready { IfOk result (λ queue. IsReady design.now queue.state) }
+    ensures awaits { IfOk result (λ queue. (vectors : List Vector) → IsLawful design.now vectors → Awaits design.now queue.state vectors) }
     ensures completes { IfOk result (λ queue. Completes design.now (start_of design.now) queue.state) }
     ensures only { IfOk result (λ queue. (t : State) → Completes design.now (start_of design.now) t → t ≡ queue.state) }
 {
     let mut queue = Queue::start(alloc, design)?;
     settle(&mut queue);
-    // Every other order would have ended here too: a law, which does nothing when it runs.
+    // Every other order would have ended here too: a law, which does nothing when it runs, as the next.
     orders_agree();
+    inputs_take_moves();
     Ok(queue)
 }
 
 /// Runs the slot of a vector.
 pub fn run_slot(queue: &mut Queue<'_>, vector: &Vector)
-    requires ready { IsReady queue.old.design queue.old.state }
-    requires form { IsVector queue.old.design vector.now }
+    requires { Awaits queue.old.design queue.old.state (vector.now ∷ []) }
     ensures design { queue.new.design ≡ queue.old.design }
-    ensures ready { IsReady queue.old.design queue.new.state }
+    ensures awaits { (rest : List Vector) → Awaits queue.old.design queue.old.state (vector.now ∷ rest) → Awaits queue.old.design queue.new.state rest }
     ensures slot { IsSlot queue.old.design queue.old.state vector.now.moves queue.new.state }
     ensures only { (t : State) → IsSlot queue.old.design queue.old.state vector.now.moves t → t ≡ queue.new.state }
 {
     queue.open_slot(vector.moves.as_slice());
     settle(queue);
-    // Every other order would have ended here too: a law, which does nothing when it runs.
+    // Every other order would have ended here too: a law, which does nothing when it runs, as the next.
     orders_agree();
+    inputs_take_moves();
 }

@@ -1,5 +1,5 @@
 //! The call that the program makes.
-ghost use Rattle.std.specs.Prelude.{◌≡◌, ◌≤◌, ◌⊎◌, Err, map, string_bytes};
+ghost use Rattle.std.specs.Prelude.{ℕ, ◌≡◌, ◌≤◌, ◌⊎◌, Err, map, string_bytes};
 ghost use Rattle.vod.specs.Answer.{World, Count};
 ghost use Rattle.vod.specs.Caused.{IsAnswered, IsRefusal, IsSaid};
 ghost use Rattle.vod.specs.declared.status.Part.TheVariants as part;
@@ -10,9 +10,9 @@ use std::alloc::Global;
 use vod_io::{Sink, Source};
 use vod_thin::one_design;
 
-/// Runs the command that the words are: `dump DESIGN A B` writes on `out` the dump from A to B of the
-/// design over the vectors of `input`, as each legal run of the event queue gives it. Each status but
-/// `Ok` and `WriteFault` writes its line on `err`.
+/// Runs the command that the words are: `dump DESIGN` writes on `out` the full dump of the design over
+/// the vectors of `input`, as each legal run of the event queue gives it. Each status but `Ok` and
+/// `WriteFault` writes its line on `err`.
 pub fn vod<D: Source, S: Source, K: Sink, E: Sink>(
     alloc: Global,
     words: &[String],
@@ -40,7 +40,7 @@ pub fn vod<D: Source, S: Source, K: Sink, E: Sink>(
     // What isn't read stays as it was.
     ensures no_design { result ≡ Status.Usage → design.new ≡ design.old }
     ensures no_input { result ≡ Status.Usage → input.new ≡ input.old }
-    ensures no_script { result ≡ Status.NotYet part.Design → input.new ≡ input.old }
+    ensures no_script { (place : ℕ) → result ≡ Status.NotYet part.Design place → input.new ≡ input.old }
 
     ensures design_counted { D.faults design.old ≤ D.faults design.new }
     ensures input_counted { S.faults input.old ≤ S.faults input.new }

@@ -2,21 +2,21 @@
 ghost use Rattle.std.specs.Prelude.{◌≡◌, ◌≤◌, ◌+◌, ◌∷◌, ◌++◌, List, All, length, MatchOption, IfOk, OnOk, OnErr, Err};
 ghost use Rattle.vod_io.specs.Told.{Written};
 ghost use Rattle.vod_io.specs.Faults.{HasCause, Rose};
-ghost use Rattle.vod_design.specs.Vectors.{IsVector, IsLawful};
+ghost use Rattle.vod_design.specs.Vectors.{IsLawful, last_time};
 ghost use Rattle.vod_queue.specs.State.{State};
 ghost use Rattle.vod_queue.specs.Run.{AreSlots};
 ghost use Rattle.vod_vcd.specs.Stream.{window_text, rest_text};
 ghost use Rattle.vod.specs.Moments.{moments};
-ghost use Rattle.vod.specs.Request.{IsWritten, IsBegun};
-ghost use Rattle.vod.specs.Windows.{request_of, window_stop};
-ghost use Rattle.vod.specs.Progress.{IsReady, IsOver, Skips};
+ghost use Rattle.vod.specs.Phases.{window_stop};
+ghost use Rattle.vod.specs.Request.{Request, dump_of, window_of, IsWritten, IsBegun};
+ghost use Rattle.vod.specs.Progress.{Awaits, IsOver, Skips};
 
 use crate::run::{run_slot, started};
 use crate::status::Stop;
 use std::alloc::Global;
 use vod_design::thin::{Design, Vector};
 use vod_io::{Failed, Sink};
-use vod_queue::{Queue, orders_agree, orders_end};
+use vod_queue::{Queue, inputs_take_moves, orders_agree, orders_end};
 use vod_vcd::{Writer, window_is_cut};
 
 /// A window of time, from one time to another, both in it.
@@ -93,11 +93,9 @@ fn due(vectors: &[Vector], to: u64) -> Option<(&Vector, &[Vector])>
 
 /// Runs the slots of the vectors not past a time, and answers the other vectors.
 fn skip<'v>(queue: &mut Queue<'_>, vectors: &'v [Vector], from: u64) -> &'v [Vector]
-    requires ready { IsReady queue.old.design queue.old.state }
-    requires forms { All (IsVector queue.old.design) vectors.now }
+    requires { Awaits queue.old.design queue.old.state vectors.now }
     ensures design { queue.new.design ≡ queue.old.design }
-    ensures ready { IsReady queue.old.design queue.new.state }
-    ensures forms { All (IsVector queue.old.design) result.now }
+    ensures awaits { Awaits queue.old.design queue.new.state result.now }
     ensures skips { Skips queue.old.design queue.old.state vectors.now from queue.new.state result.now }
 {
     let mut rest = vectors;
@@ -116,8 +114,7 @@ fn write_rest<K: Sink>(
     to: u64,
     out: &mut K,
 ) -> Result<(), Failed>
-    requires ready { IsReady queue.old.design queue.old.state }
-    requires forms { All (IsVector queue.old.design) vectors.now }
+    requires awaits { Awaits queue.old.design queue.old.state vectors.now }
     requires shown { writer.old.shown ≡ queue.old.state.val }
     requires signals { writer.old.signals ≡ length queue.old.design.signals }
     ensures written { (ends : List State) → AreSlots queue.old.design queue.old.state vectors.now ends →
@@ -141,8 +138,7 @@ fn write_run<K: Sink>(
     window: Window,
     out: &mut K,
 ) -> Result<(), Failed>
-    requires ready { IsReady queue.old.design queue.old.state }
-    requires forms { All (IsVector queue.old.design) vectors.now }
+    requires awaits { Awaits queue.old.design queue.old.state vectors.now }
     requires signals { writer.old.signals ≡ length queue.old.design.signals }
     ensures written { (ends : List State) → AreSlots queue.old.design queue.old.state vectors.now ends →
         Written result (K.taken out.old) (K.taken out.new)
@@ -165,8 +161,10 @@ pub fn write_window<K: Sink>(
     out: &mut K,
 ) -> Result<(), WindowFault>
     requires { IsLawful design.now vectors.now }
-    ensures written { OnOk result (IsWritten (request_of source.now design.now vectors.now window) (K.taken out.old) (K.taken out.new)) }
-    ensures begun { OnErr result (IsBegun (request_of source.now design.now vectors.now window) (K.taken out.old) (K.taken out.new)) }
+    ensures written { let r : Request = record { source = source.now; design = design.now; vectors = vectors.now } in
+        OnOk result (IsWritten r (window_of r window.from window.to) (K.taken out.old) (K.taken out.new)) }
+    ensures begun { let r : Request = record { source = source.now; design = design.now; vectors = vectors.now } in
+        OnErr result (IsBegun r (window_of r window.from window.to) (K.taken out.old) (K.taken out.new)) }
     ensures counted { K.faults out.old ≤ K.faults out.new }
     ensures caused { result ≡ Err WindowFault.Write → Rose (K.faults out.old) (K.faults out.new) }
 {
@@ -175,7 +173,45 @@ pub fn write_window<K: Sink>(
     // Laws of the queue and of the dump, which do nothing when they run.
     orders_agree();
     orders_end();
+    inputs_take_moves();
     window_is_cut();
     write_run(&mut queue, &mut writer, vectors, window, out)?;
     Ok(())
+}
+
+/// The time of the last vector, or 0.
+fn last_time(vectors: &[Vector]) -> u64
+    ensures { result ≡ last_time vectors.now }
+{
+    match vectors.split_last() {
+        Some((last, _)) => last.time,
+        None => 0,
+    }
+}
+
+/// Writes the full dump of the run of a design over lawful vectors, which is its window from 0 to the
+/// last time. After a fault the sink took a prefix of it.
+pub fn write_dump<K: Sink>(
+    alloc: Global,
+    source: &[u8],
+    design: &Design,
+    vectors: &[Vector],
+    out: &mut K,
+) -> Result<(), WindowFault>
+    requires { IsLawful design.now vectors.now }
+    ensures written { let r : Request = record { source = source.now; design = design.now; vectors = vectors.now } in
+        OnOk result (IsWritten r (dump_of r) (K.taken out.old) (K.taken out.new)) }
+    ensures begun { let r : Request = record { source = source.now; design = design.now; vectors = vectors.now } in
+        OnErr result (IsBegun r (dump_of r) (K.taken out.old) (K.taken out.new)) }
+    ensures counted { K.faults out.old ≤ K.faults out.new }
+    ensures caused { result ≡ Err WindowFault.Write → Rose (K.faults out.old) (K.faults out.new) }
+{
+    let whole = Window {
+        from: 0,
+        to: last_time(vectors),
+    };
+    // A law of the dump, which does nothing when it runs.
+    window_is_cut();
+    let written = write_window(alloc, source, design, vectors, whole, out);
+    written
 }

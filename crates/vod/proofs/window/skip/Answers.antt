@@ -1,23 +1,33 @@
-use Rattle.std.proofs.Common.{◌∙◌, ◌≡◌, subst}
-use Rattle.vod_design.specs.Vectors.{IsVector}
+use Rattle.std.proofs.Common.{List, ◌∷◌, ◌∙◌, ◌≡◌, subst, sym}
+use Rattle.vod_design.specs.declared.thin.Vector.{Vector}
+use Rattle.vod_design.specs.Netlist.{Netlist}
 use Rattle.vod_queue.specs.State.{State}
 use Rattle.vod_queue.specs.Run.{IsSlot}
-use Rattle.vod.specs.Progress.{IsReady}
-use Rattle.vod.proofs.WindowLaws.{passes_more, passes_over, all_behind}
+use Rattle.vod.specs.Progress.{Awaits}
+use Rattle.vod.proofs.StepsLaws.{awaits_one}
+use Rattle.vod.proofs.WindowLaws.{passes_more, passes_over}
 use Rattle.vod.proofs.window.skip.Goals as goal
+
+pub run_slot-requires : goal.run_slot-requires
+run_slot-requires c =
+    let kept = c.loop-vector.invariant in
+    let v = c.in-Some.vector.now in
+    let awaits = subst (λ (r : List Vector). Awaits c.args.queue.now.design c.loop-vector.queue.state r) c.in-Some.ensures.1 kept.awaits in
+    awaits_one c.loop-vector.queue.design c.loop-vector.queue.state v c.in-Some.behind.now (subst (λ (d : Netlist). Awaits d c.loop-vector.queue.state (v ∷ c.in-Some.behind.now)) (sym kept.design) awaits)
 
 pub loop-vector-preserved : goal.loop-vector-preserved
 loop-vector-preserved c =
     let kept = c.loop-vector.invariant in
     let whole = c.in-Some.ensures.1 in
-    let d = c.args.queue.now.design in
-    let only : (e : State) → IsSlot d c.loop-vector.queue.state c.in-Some.vector.now.moves e → e ≡ c.run_slot.new.queue.state =
-    subst (λ v. (e : State) → IsSlot v c.loop-vector.queue.state c.in-Some.vector.now.moves e → e ≡ c.run_slot.new.queue.state) kept.design c.run_slot.ensures.only in
+    let v = c.in-Some.vector.now in
+    let awaits = subst (λ (r : List Vector). Awaits c.args.queue.now.design c.loop-vector.queue.state r) whole kept.awaits in
+    let only : (e : State) → IsSlot c.args.queue.now.design c.loop-vector.queue.state v.moves e → e ≡ c.run_slot.new.queue.state =
+    subst (λ d. (e : State) → IsSlot d c.loop-vector.queue.state v.moves e → e ≡ c.run_slot.new.queue.state) kept.design c.run_slot.ensures.only in
     record {
       design = c.run_slot.ensures.design ∙ kept.design;
-      ready = subst (λ v. IsReady v c.run_slot.new.queue.state) kept.design c.run_slot.ensures.ready;
-      forms = all_behind (IsVector d) c.loop-vector.rest.now c.in-Some.behind.now c.in-Some.vector.now whole kept.forms;
-      passes = passes_more d c.args.queue.now.state c.loop-vector.queue.state c.run_slot.new.queue.state c.args.vectors.now c.args.from c.in-Some.vector.now c.loop-vector.rest.now c.in-Some.behind.now kept.passes whole c.in-Some.ensures.0 only;
+      awaits = subst (λ (d : Netlist). Awaits d c.run_slot.new.queue.state c.in-Some.behind.now) kept.design
+          (c.run_slot.ensures.awaits c.in-Some.behind.now (subst (λ (d : Netlist). Awaits d c.loop-vector.queue.state (v ∷ c.in-Some.behind.now)) (sym kept.design) awaits));
+      passes = passes_more c.args.queue.now.design c.args.queue.now.state c.loop-vector.queue.state c.run_slot.new.queue.state c.args.vectors.now c.args.from v c.loop-vector.rest.now c.in-Some.behind.now kept.passes whole c.in-Some.ensures.0 only;
     }
 
 pub returns-clause-skips : goal.returns-clause-skips

@@ -1,18 +1,21 @@
 use Rattle.vod_io.specs.Told.{appended, Puts}
 use Rattle.vod_vcd.specs.Stream.{slot_text, printed_after}
-use Rattle.std.proofs.Common.{List, ℕ, ◌∙◌, ◌≡◌, subst, sym, ap, arith}
-use Rattle.vod_design.specs.Vectors.{IsVector}
+use Rattle.std.proofs.Common.{List, ℕ, ◌∷◌, ◌∙◌, ◌≡◌, subst, sym, ap, arith}
+use Rattle.vod_design.specs.declared.thin.Vector.{Vector}
+use Rattle.vod_design.specs.Netlist.{Netlist}
 use Rattle.vod_queue.specs.State.{State}
 use Rattle.vod_queue.specs.Run.{IsSlot}
-use Rattle.vod.specs.Progress.{IsReady, Follows}
-use Rattle.vod.proofs.WindowLaws.{follows_more, follows_close, follows_stops, all_behind, all_first}
+use Rattle.vod.specs.Progress.{Awaits, Follows}
+use Rattle.vod.proofs.StepsLaws.{awaits_one}
+use Rattle.vod.proofs.WindowLaws.{follows_more, follows_close, follows_stops}
 use Rattle.vod.proofs.window.write_rest.Goals as goal
 
-pub run_slot-requires-clause-form : goal.run_slot-requires-clause-form
-run_slot-requires-clause-form g c =
+pub run_slot-requires : goal.run_slot-requires
+run_slot-requires g c =
     let kept = c.loop-vector.invariant in
-    let form = all_first (IsVector c.args.queue.now.design) c.loop-vector.rest.now c.in-Some.behind.now c.in-Some.vector.now c.in-Some.ensures.1 kept.forms in
-    subst (λ d. IsVector d c.in-Some.vector.now) (sym kept.design) form
+    let v = c.in-Some.vector.now in
+    let awaits = subst (λ (r : List Vector). Awaits c.args.queue.now.design c.loop-vector.queue.state r) c.in-Some.ensures.1 kept.awaits in
+    awaits_one c.loop-vector.queue.design c.loop-vector.queue.state v c.in-Some.behind.now (subst (λ (d : Netlist). Awaits d c.loop-vector.queue.state (v ∷ c.in-Some.behind.now)) (sym kept.design) awaits)
 
 pub returns-in_err-slot-clause-written : goal.returns-in_err-slot-clause-written
 returns-in_err-slot-clause-written g c =
@@ -51,8 +54,9 @@ loop-vector-preserved g c =
     kept.follows c.in-Some.ensures.1 c.in-Some.ensures.0 only taken in
     record {
       design = c.run_slot.ensures.design ∙ kept.design;
-      ready = subst (λ d. IsReady d u) kept.design c.run_slot.ensures.ready;
-      forms = all_behind (IsVector c.args.queue.now.design) c.loop-vector.rest.now c.in-Some.behind.now c.in-Some.vector.now c.in-Some.ensures.1 kept.forms;
+      awaits = subst (λ (d : Netlist). Awaits d u c.in-Some.behind.now) kept.design
+          (c.run_slot.ensures.awaits c.in-Some.behind.now (subst (λ (d : Netlist). Awaits d t (c.in-Some.vector.now ∷ c.in-Some.behind.now)) (sym kept.design)
+            (subst (λ (r : List Vector). Awaits c.args.queue.now.design t r) c.in-Some.ensures.1 kept.awaits)));
       shown = ap (λ p. p.shown) shown ∙ c.values.ensures.values;
       signals = ap (λ p. p.signals) shown ∙ kept.signals;
       follows = subst (λ w. Follows c.args.queue.now.design c.args.queue.now.state c.args.writer.now.printed c.args.vectors.now c.args.to (g.K.Sink.taken c.args.out.now) u w c.in-Some.behind.now now) printed more;
