@@ -16,4 +16,4 @@ loop-input-preserved c =
 pub returns : goal.returns
 returns c =
     let all = take_all c.loop-input.input-index c.args.design.now.inputs (rw (← c.inputs-input-items.ensures.items) c.loop-input-test.false) in
-    c.loop-input.invariant ∙ ap (λ inputs. first_values inputs c.args.design.now.signals) all
+    c.loop-input.invariant ∙ ap (λ inputs. first_values (map (λ (input : Input). input.signal) inputs) c.args.design.now.signals) all

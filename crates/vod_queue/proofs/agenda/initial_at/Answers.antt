@@ -1,0 +1,4 @@
+use Rattle.vod_queue.proofs.agenda.initial_at.Goals as goal
+
+pub returns-clause-within : goal.returns-clause-within
+returns-clause-within c = ?
