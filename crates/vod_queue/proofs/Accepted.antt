@@ -67,6 +67,13 @@ pub place_of : (ns : List ℕ) (n : ℕ) → has ns n ≡ true → (i : ℕ) × 
 place_of [] n h = absurd (cc)
 place_of (m ∷ ns) n h = ⊎_elim (λ here. (0, (omega arith), eqb-true m n here)) (λ later. let p = place_of ns n later in (suc p.0, (let l = p.1 in omega arith), p.2)) (or_cases (m == n) (has ns n) h)
 
+-- a field of an item that was read
+pub within_at : {A : Type 0} (f : A → ℕ) (n : ℕ) (xs items : List A) (k : ℕ) (x : A) → items ≡ xs → k < length xs → slice_index (map f xs) k < n → f (get_or items k x) < n
+within_at f n xs items k x same h below = rw (same, ← get_or-map f xs k x 0 h) below
+
+pub within_read : {A : Type 0} (f : A → ℕ) (n : ℕ) (xs items : List A) (k : ℕ) (x : A) → items ≡ xs → k < length xs → x ≡ get_or items k x → slice_index (map f xs) k < n → f x < n
+within_read f n xs items k x same h is below = subst (λ y. f y < n) (sym is) (within_at f n xs items k x same h below)
+
 -- inputs
 pub input_within : (d : Netlist) → IsAccepted d → (i : ℕ) → i < length d.inputs → slice_index (input_signals d) i < length d.signals
 input_within d a i h = a.inputs_within i 0 (rw length-map h)
@@ -167,32 +174,9 @@ clock_is_input d s h =
     let p = found (λ (input : Input). input.signal) (λ (input : Input). is_clock input.class) d.inputs s h in
     subst (λ n. has (input_signals d) n ≡ true) (field_at (λ (input : Input). input.signal) d.inputs p.0 p.1 p.2 ∙ p.3) (is_input d p.0 (slice_get_within d.inputs p.0 p.1 p.2))
 
-readable_within : (d : Netlist) → IsAccepted d → (drivers : List Driver) → (s : ℕ) → (has (targets drivers) s ≡ true → s < length d.signals) → is_readable d drivers s ≡ true → s < length d.signals
-readable_within d a drivers s target h =
-    ⊎_elim
-    (λ read. All-has (λ n. n < length d.signals) (input_signals d) s a.inputs_within (data_is_input d s read))
-    (λ rest. ⊎_elim (λ register. register_within d s register) target rest)
-    (readable_cases d drivers s h)
-
--- each signal that a driver reads is one
-pub reads_within : (d : Netlist) → IsAccepted d → (j : ℕ) (driver : Driver) → slice_get d.drivers j ≡ Some driver → All (λ s. s < length d.signals) (reads driver.value)
-reads_within d a j driver h =
-    All-weaker (λ s. is_readable d (take j d.drivers) s ≡ true) (λ s. s < length d.signals)
-    (λ s. readable_within d a (take j d.drivers) s (λ target. All-has (λ n. n < length d.signals) (targets d.drivers) s a.targets_within (has_before d j s target)))
-    (reads driver.value) (a.ranked j driver h)
-
-pub reads_within_at : (d : Netlist) → IsAccepted d → (items : List Driver) (j : ℕ) (x : Driver) → items ≡ d.drivers → j < length items → (n : ℕ) → n ≡ length d.signals → All (λ s. s < n) (reads (get_or items j x).value)
-reads_within_at d a items j x same h n e =
-    rw (e, same) (reads_within d a j (get_or d.drivers j x) (slice_get-get_or d.drivers j x (rw (← same) h)))
-
 -- each block waits for an input
 pub clock_of : (d : Netlist) → IsAccepted d → (k : ℕ) (block : Block) → slice_get d.blocks k ≡ Some block → has (clock_signals d) block.clock ≡ true
 clock_of d a k block at = let h = a.clocked k block (slice_get_within d.blocks k block at) in rw (get_or_from_slice_get d.blocks k block block at) at h
-
-pub clock_within_at : (d : Netlist) → IsAccepted d → (items : List Block) (k : ℕ) (x : Block) → items ≡ d.blocks → k < length items → (n : ℕ) → n ≡ length d.signals → (get_or items k x).clock < n
-clock_within_at d a items k x same h n e =
-    rw (e, same) (All-has (λ s. s < length d.signals) (input_signals d) (get_or d.blocks k x).clock a.inputs_within
-    (clock_is_input d (get_or d.blocks k x).clock (clock_of d a k (get_or d.blocks k x) (slice_get-get_or d.blocks k x (rw (← same) h)))))
 
 -- no block waits for a signal that is no input
 pub unheard : (d : Netlist) → IsAccepted d → (s : ℕ) → has (input_signals d) s ≡ false → (k : ℕ) → passes_at (waits_for s) d.blocks k ≡ false

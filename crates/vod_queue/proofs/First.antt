@@ -7,7 +7,7 @@ use Rattle.vod_design.specs.declared.thin.Bit.TheVariants.{X, Z}
 use Rattle.vod_design.specs.declared.thin.Signal.{Signal}
 use Rattle.vod_design.specs.declared.thin.Input.{Input}
 use Rattle.vod_design.specs.declared.thin.Move.{Move}
-use Rattle.vod_design.specs.Netlist.{Netlist, has}
+use Rattle.vod_design.specs.Netlist.{Netlist, has, input_signals}
 use Rattle.vod_design.specs.Vectors.{assigned}
 use Rattle.vod_queue.specs.State.{State, assignment, opened, IsShaped, IsResting}
 use Rattle.vod_queue.proofs.Has.{has-push, or-true, or-false}
@@ -28,6 +28,19 @@ first_values-more inputs signals i d h within =
     ∙ ap (λ b. has (take i inputs) (get_or inputs i d) || b) (eq-eqb (get_or inputs i d) (get_or inputs i d) refl) ∙ or-true (has (take i inputs) (get_or inputs i d))))
     (λ k apart. ap (λ b. if b then Z else X) (has-push (take i inputs) (get_or inputs i d) k
     ∙ ap (λ b. has (take i inputs) k || b) (ne_eqb (get_or inputs i d) k (λ e. apart (sym e))) ∙ or-false (has (take i inputs) k))))
+
+-- one more input was written
+pub first_values-next : (d : Netlist) (inputs : List Input) (i : ℕ) (x : Input) (now after : List Bit) → inputs ≡ d.inputs → i < length inputs → All (λ s. s < length d.signals) (input_signals d) → now ≡ first_values (take i (input_signals d)) d.signals →
+    after ≡ set now (get_or inputs i x).signal Z → after ≡ first_values (take (i + 1) (input_signals d)) d.signals
+first_values-next d inputs i x now after same h within is sets =
+    let h' : i < length d.inputs = rw (← same) h in
+    let h'' : i < length (input_signals d) = rw length-map h' in
+    let at : (get_or inputs i x).signal ≡ get_or (input_signals d) i 0 = rw same (sym (get_or-map (λ (input : Input). input.signal) d.inputs i x 0 h')) in
+    sets ∙ rw (is, at) (first_values-more (input_signals d) d.signals i 0 h'' (within i 0 h''))
+
+pub first_values-all : (d : Netlist) (inputs : List Input) (i : ℕ) (now : List Bit) → inputs ≡ d.inputs → length inputs ≤ i → now ≡ first_values (take i (input_signals d)) d.signals → now ≡ first_values (input_signals d) d.signals
+first_values-all d inputs i now same all is =
+    is ∙ ap (λ ns. first_values ns d.signals) (take_all i (input_signals d) (let l : length (input_signals d) ≡ length d.inputs = length-map d.inputs (λ (input : Input). input.signal) in let e = ap length same in omega arith))
 
 -- the moves that some assignments make
 abbrev pub moves_of : List Input → List Move → List (Option Bit)

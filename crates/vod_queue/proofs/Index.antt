@@ -3,12 +3,11 @@ use Rattle.std.proofs.Common.{◌≡◌, ℕ, ◌+◌, ◌<◌, ◌==◌, ◌||�
 use Rattle.std.proofs.lemmas.Bool.{cases_eq, ne_eqb}
 use Rattle.std.proofs.lemmas.List.{length-replicate, get_or-replicate, take_more, length-take-le}
 use Rattle.vod_design.specs.declared.thin.Block.{Block}
-use Rattle.vod_design.specs.Netlist.{Netlist, IsAccepted, has}
+use Rattle.vod_design.specs.Netlist.{Netlist, has}
 use Rattle.vod_queue.specs.Step.{waits_for}
-use Rattle.vod_queue.proofs.Accepted.{clock_within_at}
 use Rattle.vod_queue.specs.State.{list_at}
 use Rattle.vod_queue.specs.Index.{passes_at, IsIndex}
-use Rattle.vod_queue.proofs.Has.{or-false, has-push}
+use Rattle.vod_queue.proofs.Has.{or-false, has-append, has-push}
 
 and-false : (b : Bool) → (b && false) ≡ false
 and-false true = refl
@@ -33,14 +32,15 @@ passes_at-push test (first ∷ xs) x zero =
 passes_at-push test (first ∷ xs) x (suc k) =
     passes_at-push test xs x k ∙ ap (λ b. passes_at test xs k || (test x && b)) (sym (eqb-suc (length xs) k))
 
--- the list of one signal has one more number
-pub has-list_at-push : (lists : List (List ℕ)) (signal place s k : ℕ) → signal < length lists → has (list_at (set lists signal (list_at lists signal ++ place ∷ [])) s) k ≡ (has (list_at lists s) k || ((signal == s) && (place == k)))
+-- the list of one signal, where there is one, has one more number
+pub has-list_at-push : (lists : List (List ℕ)) (signal place s k : ℕ) → s < length lists → has (list_at (set lists signal (list_at lists signal ++ place ∷ [])) s) k ≡ (has (list_at lists s) k || ((signal == s) && (place == k)))
 has-list_at-push lists signal place s k h =
     ⊎_elim
     (λ same. let test = eq-eqb signal s same in
-    let at : list_at (set lists signal (list_at lists signal ++ place ∷ [])) s ≡ list_at lists s ++ place ∷ [] =
-    subst (λ t. list_at (set lists signal (list_at lists signal ++ place ∷ [])) t ≡ list_at lists t ++ place ∷ []) same (get_or-set_same lists signal (list_at lists signal ++ place ∷ []) [] h) in
-    rw (at, test) (has-push (list_at lists s) place k))
+    let at : list_at (set lists s (list_at lists s ++ place ∷ [])) s ≡ list_at lists s ++ place ∷ [] = get_or-set_same lists s (list_at lists s ++ place ∷ []) [] h in
+    let at' : list_at (set lists signal (list_at lists signal ++ place ∷ [])) s ≡ list_at lists s ++ place ∷ [] =
+    subst (λ t. list_at (set lists t (list_at lists t ++ place ∷ [])) s ≡ list_at lists s ++ place ∷ []) (sym same) at in
+    rw (at', test) (has-push (list_at lists s) place k))
     (λ other. let test = ne_eqb signal s other in
     let at : list_at (set lists signal (list_at lists signal ++ place ∷ [])) s ≡ list_at lists s =
     get_or-set_other lists signal s (list_at lists signal ++ place ∷ []) [] (λ e. other (sym e)) in
@@ -70,18 +70,33 @@ IsIndex-none test signals = record {
   exact = λ s k h. let at : list_at {A = ℕ} (replicate signals []) s ≡ [] = get_or-replicate signals s [] [] h in rw at refl;
 }
 
-pub IsIndex-more : {A : Type 0} (test : ℕ → A → Bool) (xs items : List A) (i : ℕ) (d : A) (signals : ℕ) (old new : List (List ℕ)) → items ≡ xs → i < length items → IsIndex test (take i xs) signals old → length new ≡ length old →
-    ((s k : ℕ) → s < length old → has (list_at new s) k ≡ (has (list_at old s) k || (test s (get_or items i d) && (i == k)))) → IsIndex test (take (i + 1) xs) signals new
-IsIndex-more test xs items i d signals old new same h index len added =
+pub IsIndex-more : {A : Type 0} (test : ℕ → A → Bool) (xs items : List A) (i : ℕ) (x : A) (signals : ℕ) (old new : List (List ℕ)) → items ≡ xs → i < length items → x ≡ get_or items i x → IsIndex test (take i xs) signals old → length new ≡ length old →
+    ((s k : ℕ) → s < length old → has (list_at new s) k ≡ (has (list_at old s) k || (test s x && (i == k)))) → IsIndex test (take (i + 1) xs) signals new
+IsIndex-more test xs items i x signals old new same h is index len added =
     let len_take : length (take i xs) ≡ i = length-take-le i xs (rw (← same) (omega arith)) in
     let h' : i < length xs = rw (← same) h in
-    rw (take_more xs i d h')
-    (IsIndex-push test (take i xs) (get_or xs i d) signals old new index len
-    (λ s k l. rw (len_take, ← same) (added s k l)))
+    let is' : get_or xs i x ≡ x = sym (rw same at is) in
+    rw (take_more xs i x h', is')
+    (IsIndex-push test (take i xs) x signals old new index len
+    (λ s k l. rw len_take (added s k l)))
 
 -- one more block, in the list of its clock
-pub IsIndex-more_one : (d : Netlist) → IsAccepted d → (items : List Block) (i : ℕ) (x : Block) (signals : ℕ) (old new : List (List ℕ)) → items ≡ d.blocks → i < length items → signals ≡ length d.signals → IsIndex waits_for (take i d.blocks) signals old → length new ≡ length old →
-    new ≡ set old (get_or items i x).clock (list_at old (get_or items i x).clock ++ i ∷ []) → IsIndex waits_for (take (i + 1) d.blocks) signals new
-IsIndex-more_one d a items i x signals old new same h all index len pushed =
-    IsIndex-more waits_for d.blocks items i x signals old new same h index len
-    (λ s k l. rw pushed (has-list_at-push old (get_or items i x).clock i s k (clock_within_at d a items i x same h (length old) (index.covers ∙ all))))
+pub IsIndex-more_one : (d : Netlist) (items : List Block) (i : ℕ) (x : Block) (signals : ℕ) (old new : List (List ℕ)) → items ≡ d.blocks → i < length items → x ≡ get_or items i x → IsIndex waits_for (take i d.blocks) signals old →
+    length new ≡ length old → new ≡ set old x.clock (list_at old x.clock ++ i ∷ []) → IsIndex waits_for (take (i + 1) d.blocks) signals new
+IsIndex-more_one d items i x signals old new same h is index len pushed =
+    IsIndex-more waits_for d.blocks items i x signals old new same h is index len
+    (λ s k l. rw pushed (has-list_at-push old x.clock i s k l))
+
+-- the place in the lists of what an expression reads, by its operands
+pub added_one : (read : List ℕ) (s place : ℕ) (old new : List (List ℕ)) → read ≡ s ∷ [] → new ≡ set old s (list_at old s ++ place ∷ []) → (t k : ℕ) → t < length old →
+    has (list_at new t) k ≡ (has (list_at old t) k || (has read t && (place == k)))
+added_one read s place old new is pushed t k l =
+    rw (is, pushed) (has-list_at-push old s place t k l ∙ ap (λ b. has (list_at old t) k || (b && (place == k))) (sym (or-false (s == t))))
+
+pub added_both : (read first last : List ℕ) (place : ℕ) (old mid new : List (List ℕ)) → read ≡ first ++ last → length mid ≡ length old →
+    ((t k : ℕ) → t < length old → has (list_at mid t) k ≡ (has (list_at old t) k || (has first t && (place == k)))) →
+    ((t k : ℕ) → t < length mid → has (list_at new t) k ≡ (has (list_at mid t) k || (has last t && (place == k)))) →
+    (t k : ℕ) → t < length old → has (list_at new t) k ≡ (has (list_at old t) k || (has read t && (place == k)))
+added_both read first last place old mid new is len to_mid to_new t k l =
+    to_new t k (rw len l) ∙ ap (λ b. b || (has last t && (place == k))) (to_mid t k l) ∙ or_both (has (list_at old t) k) (has first t) (has last t) (place == k)
+    ∙ ap (λ b. has (list_at old t) k || (b && (place == k))) (sym (ap (λ ns. has ns t) is ∙ has-append first last t))

@@ -1,5 +1,7 @@
 pub mod Has
 pub mod Count
+pub mod Choices
+pub mod OneUpdate
 pub mod Raised
 pub mod Index
 pub mod Accepted

@@ -1,5 +1,5 @@
 //! What a change of each signal reaches: the drivers that read it, and the blocks that wait for it.
-ghost use Rattle.std.specs.Prelude.{◌≡◌, ℕ, ◌<◌, ◌==◌, ◌||◌, ◌&&◌, ◌++◌, ◌∷◌, [], All, length, replicate, slice_set, IfOk, OnOk};
+ghost use Rattle.std.specs.Prelude.{◌≡◌, ℕ, ◌<◌, ◌==◌, ◌||◌, ◌&&◌, ◌++◌, ◌∷◌, [], length, replicate, slice_set, IfOk, OnOk};
 ghost use Rattle.vod_design.specs.Expr.{reads};
 ghost use Rattle.vod_design.specs.Netlist.{has};
 ghost use Rattle.vod_queue.specs.State.{list_at};
@@ -61,12 +61,14 @@ impl Fanout {
         Ok(Fanout { lists })
     }
 
+    /// Adds a place to the list of a signal, where there is one.
     fn push(&mut self, signal: u32, place: u32) -> Result<(), AllocError>
-        requires { signal < length self.old }
         ensures same { length self.new ≡ length self.old }
         ensures pushed { OnOk result (self.new ≡ slice_set self.old signal (list_at self.old signal ++ place ∷ [])) }
     {
-        self.lists[signal as usize].push(place)?;
+        if (signal as usize) < self.lists.len() {
+            self.lists[signal as usize].push(place)?;
+        }
         Ok(())
     }
 }
@@ -95,7 +97,6 @@ fn waiters_of(alloc: Global, design: &Design) -> Result<Fanout, AllocError>
 
 /// Adds a place to the list of each signal that an expression reads.
 fn add_reads(fanout: &mut Fanout, place: u32, value: &Expr) -> Result<(), AllocError>
-    requires { All (λ s. s < length fanout.old) (reads value.now) }
     ensures same { length fanout.new ≡ length fanout.old }
     ensures added { OnOk result ((s k : ℕ) → s < length fanout.old → has (list_at fanout.new s) k ≡ (has (list_at fanout.old s) k || (has (reads value.now) s && (place == k)))) }
 {

@@ -1,14 +1,9 @@
 use Rattle.std.proofs.Common.{length}
 use Rattle.vod_queue.specs.Step.{reads_signal}
-use Rattle.vod_queue.proofs.Accepted.{reads_within_at}
-use Rattle.vod_queue.proofs.Index.{IsIndex-none, IsIndex-more}
+use Rattle.vod_queue.proofs.Index.{IsIndex-more}
 use Rattle.vod_queue.proofs.fanout.readers_of.Goals as goal
-
-pub add_reads-requires : goal.add_reads-requires
-add_reads-requires c =
-    reads_within_at c.args.design.now c.signals.ensures.accepted _ c.loop-place.place _ c.drivers-driver-items.ensures.items c.loop-place-test.true _ c.loop-place.invariant.covers
 
 pub loop-place-preserved : goal.loop-place-preserved
 loop-place-preserved c =
-    IsIndex-more reads_signal c.args.design.now.drivers c.drivers-driver-items.result.now c.loop-place.place _ (length c.args.design.now.signals) c.loop-place.fanout _ c.drivers-driver-items.ensures.items c.loop-place-test.true
+    IsIndex-more reads_signal c.args.design.now.drivers c.drivers-driver-items.result.now c.loop-place.place c.driver-item.result (length c.args.design.now.signals) c.loop-place.fanout _ c.drivers-driver-items.ensures.items c.loop-place-test.true c.driver-item.is
     c.loop-place.invariant c.in_ok-add_reads.ensures.same c.in_ok-add_reads.ensures.added
