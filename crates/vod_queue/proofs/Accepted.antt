@@ -67,6 +67,9 @@ pub place_of : (ns : List ℕ) (n : ℕ) → has ns n ≡ true → (i : ℕ) × 
 place_of [] n h = absurd (cc)
 place_of (m ∷ ns) n h = ⊎_elim (λ here. (0, (omega arith), eqb-true m n here)) (λ later. let p = place_of ns n later in (suc p.0, (let l = p.1 in omega arith), p.2)) (or_cases (m == n) (has ns n) h)
 
+pub below_same : (x n m : ℕ) → m ≡ n → x < n → x < m
+below_same x n m same below = rw same below
+
 -- a field of an item that was read
 pub within_at : {A : Type 0} (f : A → ℕ) (n : ℕ) (xs items : List A) (k : ℕ) (x : A) → items ≡ xs → k < length xs → slice_index (map f xs) k < n → f (get_or items k x) < n
 within_at f n xs items k x same h below = rw (same, ← get_or-map f xs k x 0 h) below
@@ -164,7 +167,7 @@ readable_cases d drivers s h =
     (λ target. inr (inr target))
     (or_cases (has (data_signals d) s || is_register d s) (has (targets drivers) s) h)
 
-data_is_input : (d : Netlist) (s : ℕ) → has (data_signals d) s ≡ true → has (input_signals d) s ≡ true
+pub data_is_input : (d : Netlist) (s : ℕ) → has (data_signals d) s ≡ true → has (input_signals d) s ≡ true
 data_is_input d s h =
     let p = found (λ (input : Input). input.signal) (λ (input : Input). not (is_clock input.class)) d.inputs s h in
     subst (λ n. has (input_signals d) n ≡ true) (field_at (λ (input : Input). input.signal) d.inputs p.0 p.1 p.2 ∙ p.3) (is_input d p.0 (slice_get_within d.inputs p.0 p.1 p.2))
@@ -178,13 +181,15 @@ clock_is_input d s h =
 pub clock_of : (d : Netlist) → IsAccepted d → (k : ℕ) (block : Block) → slice_get d.blocks k ≡ Some block → has (clock_signals d) block.clock ≡ true
 clock_of d a k block at = let h = a.clocked k block (slice_get_within d.blocks k block at) in rw (get_or_from_slice_get d.blocks k block block at) at h
 
--- no block waits for a signal that is no input
-pub unheard : (d : Netlist) → IsAccepted d → (s : ℕ) → has (input_signals d) s ≡ false → (k : ℕ) → passes_at (waits_for s) d.blocks k ≡ false
+pub no_clock : (d : Netlist) (s : ℕ) → has (input_signals d) s ≡ false → has (clock_signals d) s ≡ false
+no_clock d s free = false_from_ne_true (has (clock_signals d) s) (λ clock. let clash : true ≡ false = sym (clock_is_input d s clock) ∙ free in cc)
+
+-- no block waits for a signal that is no clock
+pub unheard : (d : Netlist) → IsAccepted d → (s : ℕ) → has (clock_signals d) s ≡ false → (k : ℕ) → passes_at (waits_for s) d.blocks k ≡ false
 unheard d a s free k =
     false_from_ne_true (passes_at (waits_for s) d.blocks k)
     (λ waits. let p = item_at (waits_for s) d.blocks k waits in
-    let is = clock_is_input d p.0.clock (clock_of d a k p.0 p.1) in
-    apart_has (input_signals d) p.0.clock s is free (eqb-true p.0.clock s p.2))
+    apart_has (clock_signals d) p.0.clock s (clock_of d a k p.0 p.1) free (eqb-true p.0.clock s p.2))
 
 -- no expression reads a clock
 pub clock_unreadable : (d : Netlist) → IsAccepted d → (drivers : List Driver) (s : ℕ) → has (clock_signals d) s ≡ true → (has (targets drivers) s ≡ true → has (targets d.drivers) s ≡ true) → is_readable d drivers s ≡ false
@@ -222,3 +227,27 @@ unread_by_blocks d a k block at =
     All-weaker (λ s. is_readable d d.drivers s ≡ true) (λ s. has (clock_signals d) s ≡ false)
     (λ s readable. false_from_ne_true (has (clock_signals d) s) (λ clock. let free = clock_unreadable d a d.drivers s clock (λ target. target) in let clash : true ≡ false = sym readable ∙ free in cc))
     (reads block.value) (rw (get_or_from_slice_get d.blocks k block block at) at h)
+
+-- inputs, targets and registers are different signals
+pub input_not_target : (d : Netlist) → IsAccepted d → (i j : ℕ) → i < length d.inputs → j < length d.drivers → slice_index (input_signals d) i ≢ slice_index (targets d.drivers) j
+input_not_target d a i j hi hj = apart_has (input_signals d) (slice_index (input_signals d) i) (slice_index (targets d.drivers) j) (is_input d i hi) (target_no_input d a j hj)
+
+pub input_not_register : (d : Netlist) → IsAccepted d → (i n : ℕ) → i < length d.inputs → is_register d n ≡ true → slice_index (input_signals d) i ≢ n
+input_not_register d a i n hi register = apart_has (input_signals d) (slice_index (input_signals d) i) n (is_input d i hi) (register_no_input d a n register)
+
+pub target_not_register : (d : Netlist) → IsAccepted d → (j n : ℕ) → j < length d.drivers → is_register d n ≡ true → slice_index (targets d.drivers) j ≢ n
+target_not_register d a j n hj register = apart_has (targets d.drivers) (slice_index (targets d.drivers) j) n (is_target d j hj) (register_no_target d a n register)
+
+pub targets_apart : (d : Netlist) → IsAccepted d → (j k : ℕ) → j < length d.drivers → k < length d.drivers → j ≢ k → slice_index (targets d.drivers) j ≢ slice_index (targets d.drivers) k
+targets_apart d a j k hj hk apart = apart_at (targets d.drivers) a.driven_once j k (rw length-map hj) (rw length-map hk) apart
+
+pub assigned_apart : (d : Netlist) → IsAccepted d → (j k : ℕ) → j < length d.blocks → k < length d.blocks → j ≢ k → slice_index (assigned_registers d.blocks) j ≢ slice_index (assigned_registers d.blocks) k
+assigned_apart d a j k hj hk apart = apart_at (assigned_registers d.blocks) a.assigned_once j k (rw length-map hj) (rw length-map hk) apart
+
+pub item_of : {A : Type 0} (xs : List A) (k : ℕ) → k < length xs → (x : A) × (slice_get xs k ≡ Some x)
+item_of [] k h = absurd (omega arith)
+item_of (x ∷ xs) zero h = (x, refl)
+item_of (x ∷ xs) (suc k) h = item_of xs k (omega arith)
+
+pub same_item : {A : Type 0} (xs : List A) (j k : ℕ) (x y : A) → slice_get xs j ≡ Some x → slice_get xs k ≡ Some y → j ≡ k → x ≡ y
+same_item xs j k x y at at' same = same_Some x y (sym at ∙ ap (slice_get xs) same ∙ at')

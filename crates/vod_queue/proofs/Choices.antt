@@ -19,9 +19,6 @@ active_of s = count_by is_some s.moves + set_count s.wake + count_by is_some s.p
 abbrev pub activations_of : ℕ → ℕ → ℕ
 activations_of active later = if (active == 0) && not (later == 0) then 1 else 0
 
-zero_or_more : (n : ℕ) (b : Bool) → (not (n == 0) || b) ≡ not (n == 0) || b
-zero_or_more n b = refl
-
 any_by : (b : Bool) (n : ℕ) → (b || not (n == 0)) ≡ not (cond {A = ℕ} b 1 0 + n == 0)
 any_by true n = let e : (1 + n == 0) ≡ false = ne_eqb (1 + n) 0 (λ h. omega arith) in rw e refl
 any_by false n = let e : 0 + n ≡ n = omega arith in rw e refl
@@ -111,14 +108,6 @@ behind : {A : Type 0} (f : ℕ → Event) (test : A → Bool) (xs : List A) (res
 behind f test xs rest n i choice is le left =
     let e : choice ≡ n + i = omega arith in
     rw e (slice_get_back (map f (places test xs)) rest i n (length-kind f test xs ∙ sym is))
-
--- the counts of the kinds, as they are taken
-pub record Counts (s : State) (m w p t i : ℕ) : Type 0 where
-  pub moves : m ≡ count_by is_some s.moves
-  pub wake : w ≡ set_count s.wake
-  pub pend : p ≡ count_by is_some s.pend
-  pub todo : t ≡ set_count s.todo
-  pub init : i ≡ set_count s.init
 
 pub chosen-move : (s now : State) → now ≡ s → (i nth : ℕ) → i < length now.moves → is_some (option_at now.moves i) ≡ true → count_by is_some (take i now.moves) ≡ nth → slice_get (choices_of s) nth ≡ Some (TakeMove i)
 chosen-move s now same i nth h some count = rw (← same) (chosen TakeMove is_some now.moves _ i None nth h some count)
@@ -231,17 +220,44 @@ is_nil (x ∷ xs) h = cc
 not_filled : {A : Type 0} (xs : List A) → xs ≡ [] → is_filled xs ≡ false
 not_filled xs h = ap is_filled h
 
--- nothing is left exactly where the counts are 0
-pub resting_from_counts : (s : State) → active_of s ≡ 0 → count_by is_filled s.later ≡ 0 → IsResting s
-resting_from_counts s active later = record {
+-- nothing is left but updates in later
+pub record IsIdle (s : State) : Type 0 where
+  pub moves : All (λ move. move ≡ None) s.moves
+  pub init : All (λ flag. flag ≡ false) s.init
+  pub wake : All (λ flag. flag ≡ false) s.wake
+  pub pend : All (λ value. value ≡ None) s.pend
+  pub todo : All (λ flag. flag ≡ false) s.todo
+  pub now : All (λ updates. updates ≡ []) s.now
+
+idle_from_count : (s : State) → active_of s ≡ 0 → IsIdle s
+idle_from_count s active = record {
   moves = All-weaker (λ o. is_some o ≡ false) (λ o. o ≡ None) is_none s.moves (none_passes is_some s.moves (omega arith));
   init = none_passes (λ flag. flag) s.init (omega arith);
   wake = none_passes (λ flag. flag) s.wake (omega arith);
   pend = All-weaker (λ o. is_some o ≡ false) (λ o. o ≡ None) is_none s.pend (none_passes is_some s.pend (omega arith));
   todo = none_passes (λ flag. flag) s.todo (omega arith);
-  later = All-weaker (λ xs. is_filled xs ≡ false) (λ xs. xs ≡ []) is_nil s.later (none_passes is_filled s.later later);
   now = All-weaker (λ xs. is_filled xs ≡ false) (λ xs. xs ≡ []) is_nil s.now (none_passes is_filled s.now (omega arith));
 }
+
+-- so it is where an activation is allowed, and some update is in later
+pub idle : (s : State) → is_allowed s Activate ≡ true → IsIdle s
+idle s allowed =
+    let both = and_parts (active_of s == 0) (not (count_by is_filled s.later == 0)) (sym (activation s) ∙ allowed) in
+    idle_from_count s (eqb-true (active_of s) 0 both.0)
+
+-- nothing is left where the counts are 0
+resting_from_counts : (s : State) → active_of s ≡ 0 → count_by is_filled s.later ≡ 0 → IsResting s
+resting_from_counts s active later =
+    let r = idle_from_count s active in
+    record {
+      moves = r.moves;
+      init = r.init;
+      wake = r.wake;
+      pend = r.pend;
+      todo = r.todo;
+      later = All-weaker (λ xs. is_filled xs ≡ false) (λ xs. xs ≡ []) is_nil s.later (none_passes is_filled s.later later);
+      now = r.now;
+    }
 
 counts_from_resting : (s : State) → IsResting s → (active_of s ≡ 0) × (count_by is_filled s.later ≡ 0)
 counts_from_resting s r =
@@ -266,3 +282,9 @@ counts_choices s now same n active later is_active is_later is =
     (e ∙ sym (length-choices_of now),
     ((λ zeros. let both = total_none (active_of now) (count_by is_filled now.later) (sym e ∙ zeros) in resting_from_counts now both.0 both.1),
     (λ rests. let both = counts_from_resting now rests in e ∙ rw (both.0, both.1) refl))))
+
+pub active_is : (s : State) (m w p t i n : ℕ) → m ≡ count_by is_some s.moves → w ≡ set_count s.wake → p ≡ count_by is_some s.pend → t ≡ set_count s.todo → i ≡ set_count s.init → n ≡ count_by is_filled s.now → m + w + p + t + i + n ≡ active_of s
+active_is s m w p t i n is_m is_w is_p is_t is_i is_n = rw (is_m, is_w, is_p, is_t, is_i, is_n) refl
+
+pub total_is : (active later more : ℕ) → more ≡ activations_of active later → active + more ≡ active + activations_of active later
+total_is active later more is = ap (λ n. active + n) is

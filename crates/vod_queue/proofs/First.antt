@@ -29,6 +29,9 @@ first_values-more inputs signals i d h within =
     (λ k apart. ap (λ b. if b then Z else X) (has-push (take i inputs) (get_or inputs i d) k
     ∙ ap (λ b. has (take i inputs) k || b) (ne_eqb (get_or inputs i d) k (λ e. apart (sym e))) ∙ or-false (has (take i inputs) k))))
 
+pub length-first_values : (inputs : List ℕ) (signals : List Signal) → length (first_values inputs signals) ≡ length signals
+length-first_values inputs signals = length-tabled (λ s. if has inputs s then Z else X) signals
+
 -- one more input was written
 pub first_values-next : (d : Netlist) (inputs : List Input) (i : ℕ) (x : Input) (now after : List Bit) → inputs ≡ d.inputs → i < length inputs → All (λ s. s < length d.signals) (input_signals d) → now ≡ first_values (take i (input_signals d)) d.signals →
     after ≡ set now (get_or inputs i x).signal Z → after ≡ first_values (take (i + 1) (input_signals d)) d.signals

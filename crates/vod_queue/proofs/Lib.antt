@@ -8,4 +8,8 @@ pub mod Accepted
 pub mod Tabled
 pub mod First
 pub mod Shaped
+pub mod Puts
+pub mod Orderly
+pub mod Ranked
+pub mod Falls
 pub mod Tree

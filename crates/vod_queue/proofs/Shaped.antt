@@ -13,16 +13,13 @@ use Rattle.vod_design.specs.Netlist.{Netlist, has, targets, input_signals, assig
 use Rattle.vod_queue.specs.declared.event.Event.TheVariants.{TakeMove, Evaluate, Update, Run, Initialize, Activate, Perform}
 use Rattle.vod_queue.specs.State.{State, start_of, opened, option_at, list_at, assignment, IsShaped}
 use Rattle.vod_queue.specs.Step.{Event, after, put, pending, evaluated, ran, is_rising, initial_values, reads_signal, waits_for}
-use Rattle.vod_queue.proofs.First.{first_values}
+use Rattle.vod_queue.proofs.First.{length-first_values}
 use Rattle.vod_queue.proofs.Tabled.{length-tabled}
 use Rattle.vod_queue.proofs.Raised.{length-raised_if}
 
-length-first : (d : Netlist) → length (first_values (input_signals d) d.signals) ≡ length d.signals
-length-first d = length-tabled (λ s. if has (input_signals d) s then Z else X) d.signals
-
 pub IsShaped-start_of : (d : Netlist) → IsShaped d (start_of d)
 IsShaped-start_of d = record {
-  val = length-first d;
+  val = length-first_values (input_signals d) d.signals;
   moves = length-replicate (length d.inputs) None;
   init = length-replicate (length d.initials) true;
   wake = length-replicate (length d.drivers) true;
