@@ -12,4 +12,7 @@ pub mod Puts
 pub mod Orderly
 pub mod Ranked
 pub mod Falls
+pub mod Due
+pub mod Inputs
+pub mod Unique
 pub mod Tree

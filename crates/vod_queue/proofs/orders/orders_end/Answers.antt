@@ -1,0 +1,10 @@
+use Rattle.vod_queue.proofs.orders.orders_end.Goals as goal
+
+pub returns-clause-order_ends : goal.returns-clause-order_ends
+returns-clause-order_ends c = ?
+
+pub returns-clause-slot_exists : goal.returns-clause-slot_exists
+returns-clause-slot_exists c = ?
+
+pub returns-clause-run_exists : goal.returns-clause-run_exists
+returns-clause-run_exists c = ?
