@@ -60,6 +60,12 @@ same_bit-true Z One h = cc
 same_bit-true Z X h = cc
 same_bit-true Z Z h = refl
 
+pub same_itself : (b : Bit) → same_bit b b ≡ true
+same_itself Zero = refl
+same_itself One = refl
+same_itself X = refl
+same_itself Z = refl
+
 -- a driver that still awaits evaluation, or whose values are unchanged, stays due
 IsDue-kept : (flag flag' : Bool) (value : Option Bit) (new new' old old' : Bit) → (flag ≡ true → flag' ≡ true) → (flag' ≡ true) ⊎ (new' ≡ new) → old' ≡ old → IsDue flag value new old → IsDue flag' value new' old'
 IsDue-kept flag true value new new' old old' rises either same due = tt

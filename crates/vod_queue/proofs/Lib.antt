@@ -15,4 +15,8 @@ pub mod Falls
 pub mod Due
 pub mod Inputs
 pub mod Unique
+pub mod Calm
+pub mod Clocked
+pub mod Moves
+pub mod Ends
 pub mod Tree
