@@ -5,8 +5,9 @@ use Rattle.std.proofs.lemmas.List.{take_all, take_more, length-take-le, get_or-t
 use Rattle.vod_design.specs.declared.thin.Bit.{Bit}
 use Rattle.vod_design.specs.declared.thin.Bit.TheVariants.{X, Z}
 use Rattle.vod_design.specs.declared.thin.Signal.{Signal}
+use Rattle.vod_design.specs.declared.thin.Input.{Input}
 use Rattle.vod_design.specs.declared.thin.Move.{Move}
-use Rattle.vod_design.specs.Netlist.{Netlist, has}
+use Rattle.vod_design.specs.Netlist.{Netlist, has, input_signals}
 use Rattle.vod_design.specs.Vectors.{assigned}
 use Rattle.vod_queue.specs.State.{State, assignment, opened, IsShaped, IsResting}
 use Rattle.vod_queue.proofs.Has.{has-push, or-true, or-false}
@@ -28,11 +29,27 @@ first_values-more inputs signals i d h within =
     (λ k apart. ap (λ b. if b then Z else X) (has-push (take i inputs) (get_or inputs i d) k
     ∙ ap (λ b. has (take i inputs) k || b) (ne_eqb (get_or inputs i d) k (λ e. apart (sym e))) ∙ or-false (has (take i inputs) k))))
 
+pub length-first_values : (inputs : List ℕ) (signals : List Signal) → length (first_values inputs signals) ≡ length signals
+length-first_values inputs signals = length-tabled (λ s. if has inputs s then Z else X) signals
+
+-- one more input was written
+pub first_values-next : (d : Netlist) (inputs : List Input) (i : ℕ) (x : Input) (now after : List Bit) → inputs ≡ d.inputs → i < length inputs → All (λ s. s < length d.signals) (input_signals d) → now ≡ first_values (take i (input_signals d)) d.signals →
+    after ≡ set now (get_or inputs i x).signal Z → after ≡ first_values (take (i + 1) (input_signals d)) d.signals
+first_values-next d inputs i x now after same h within is sets =
+    let h' : i < length d.inputs = rw (← same) h in
+    let h'' : i < length (input_signals d) = rw length-map h' in
+    let at : (get_or inputs i x).signal ≡ get_or (input_signals d) i 0 = rw same (sym (get_or-map (λ (input : Input). input.signal) d.inputs i x 0 h')) in
+    sets ∙ rw (is, at) (first_values-more (input_signals d) d.signals i 0 h'' (within i 0 h''))
+
+pub first_values-all : (d : Netlist) (inputs : List Input) (i : ℕ) (now : List Bit) → inputs ≡ d.inputs → length inputs ≤ i → now ≡ first_values (take i (input_signals d)) d.signals → now ≡ first_values (input_signals d) d.signals
+first_values-all d inputs i now same all is =
+    is ∙ ap (λ ns. first_values ns d.signals) (take_all i (input_signals d) (let l : length (input_signals d) ≡ length d.inputs = length-map d.inputs (λ (input : Input). input.signal) in let e = ap length same in omega arith))
+
 -- the moves that some assignments make
-abbrev pub moves_of : List ℕ → List Move → List (Option Bit)
+abbrev pub moves_of : List Input → List Move → List (Option Bit)
 moves_of inputs moves = tabled (assignment moves) inputs
 
-pub moves_of-none : (inputs : List ℕ) (moves : List (Option Bit)) → length moves ≡ length inputs → All (λ move. move ≡ None) moves → moves ≡ moves_of inputs []
+pub moves_of-none : (inputs : List Input) (moves : List (Option Bit)) → length moves ≡ length inputs → All (λ move. move ≡ None) moves → moves ≡ moves_of inputs []
 moves_of-none inputs moves len none = same_tabled (assignment []) inputs moves len (λ k d h. none k d (omega arith))
 
 choice_of : (b : Bool) (x y : Option Bit) → b ≡ true → (if b then x else y) ≡ x
@@ -71,7 +88,7 @@ apart_before moves i d once h k e l =
     let both = once k i 0 below (rw length-map h) in
     rw (get_or-take i moves k e below, ← get_or-map (λ (move : Move). move.input) moves k e 0 (omega arith), ← get_or-map (λ (move : Move). move.input) moves i d 0 h) both
 
-pub moves_of-more : (inputs : List ℕ) (moves : List Move) (i : ℕ) (d : Move) → AllPairs (λ m n. m ≢ n) (assigned moves) → i < length moves → (get_or moves i d).input < length inputs →
+pub moves_of-more : (inputs : List Input) (moves : List Move) (i : ℕ) (d : Move) → AllPairs (λ m n. m ≢ n) (assigned moves) → i < length moves → (get_or moves i d).input < length inputs →
     set (moves_of inputs (take i moves)) (get_or moves i d).input (Some (get_or moves i d).value) ≡ moves_of inputs (take (i + 1) moves)
 moves_of-more inputs moves i d once h within =
     rw (take_more moves i d h)
@@ -80,18 +97,31 @@ moves_of-more inputs moves i d once h within =
     (assignment-none (take i moves) (get_or moves i d).input (λ k e l. apart_before moves i d once h k e l)))
     (assignment-other (take i moves) (get_or moves i d)))
 
-pub same_state : (s t : State) → s.val ≡ t.val → s.moves ≡ t.moves → s.wake ≡ t.wake → s.pend ≡ t.pend → s ≡ t
-same_state s t val moves wake pend =
-    let a : s ≡ record s { val = t.val } = ap (λ v. record s { val = v }) val in
-    let b : record s { val = t.val } ≡ record t { wake = s.wake; pend = s.pend } = ap (λ v. record s { val = t.val; moves = v }) moves in
-    let c : record t { wake = s.wake; pend = s.pend } ≡ record t { pend = s.pend } = ap (λ v. record t { wake = v; pend = s.pend }) wake in
-    let e : record t { pend = s.pend } ≡ t = ap (λ v. record t { pend = v }) pend in
-    a ∙ b ∙ c ∙ e
+build : List Bit → List (Option Bit) → List Bool → List Bool → List (Option Bit) → List Bool → List (List Bit) → List (List Bit) → State
+build val moves init wake pend todo later now = record { val = val; moves = moves; init = init; wake = wake; pend = pend; todo = todo; later = later; now = now }
+
+built : (s : State) → build s.val s.moves s.init s.wake s.pend s.todo s.later s.now ≡ s
+unfolding build
+built s = refl
+
+pub same_state : (s t : State) → s.val ≡ t.val → s.moves ≡ t.moves → s.init ≡ t.init → s.wake ≡ t.wake → s.pend ≡ t.pend → s.todo ≡ t.todo → s.later ≡ t.later → s.now ≡ t.now → s ≡ t
+same_state s t val moves init wake pend todo later now =
+    let e : build s.val s.moves s.init s.wake s.pend s.todo s.later s.now ≡ build t.val t.moves t.init t.wake t.pend t.todo t.later t.now = cc in
+    sym (built s) ∙ e ∙ built t
+
+-- all parts but the values and the moves are the same
+pub record SameRest (s t : State) : Type 0 where
+  pub init : s.init ≡ t.init
+  pub wake : s.wake ≡ t.wake
+  pub pend : s.pend ≡ t.pend
+  pub todo : s.todo ≡ t.todo
+  pub later : s.later ≡ t.later
+  pub now : s.now ≡ t.now
 
 -- only the moves have changed, and all assignments were written
-pub opened_all : (d : Netlist) (moves : List Move) (s before now : State) (i : ℕ) → before ≡ s → length moves ≤ i → now.moves ≡ moves_of d.inputs (take i moves) → now.val ≡ before.val → now.wake ≡ before.wake → now.pend ≡ before.pend → now ≡ opened d moves s
-opened_all d moves s before now i same all is val wake pend =
-    rw (← same) (same_state now (opened d moves before) val (is ∙ ap (moves_of d.inputs) (take_all i moves all)) wake pend)
+pub opened_all : (d : Netlist) (moves : List Move) (s before now : State) (i : ℕ) → before ≡ s → length moves ≤ i → now.moves ≡ moves_of d.inputs (take i moves) → now.val ≡ before.val → SameRest now before → now ≡ opened d moves s
+opened_all d moves s before now i same all is val rest =
+    rw (← same) (same_state now (opened d moves before) val (is ∙ ap (moves_of d.inputs) (take_all i moves all)) rest.init rest.wake rest.pend rest.todo rest.later rest.now)
 
 pub opened_none : (d : Netlist) (s before : State) → before ≡ s → IsShaped d s → IsResting s → before.moves ≡ moves_of d.inputs []
 opened_none d s before same shaped rests = moves_of-none d.inputs before.moves (rw same shaped.moves) (rw same rests.moves)
@@ -103,5 +133,5 @@ pub opened_more : (d : Netlist) (moves : List Move) (now after : List (Option Bi
     now ≡ moves_of d.inputs (take i moves) → after ≡ set now (get_or moves i x).input (Some (get_or moves i x).value) → after ≡ moves_of d.inputs (take (i + 1) moves)
 opened_more d moves now after i x once within h is sets = sets ∙ rw is (moves_of-more d.inputs moves i x once h (assigned_within d moves within i x h))
 
-pub length-moves_of : (inputs : List ℕ) (moves : List Move) → length (moves_of inputs moves) ≡ length inputs
+pub length-moves_of : (inputs : List Input) (moves : List Move) → length (moves_of inputs moves) ≡ length inputs
 length-moves_of inputs moves = length-tabled (assignment moves) inputs

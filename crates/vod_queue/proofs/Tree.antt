@@ -5,7 +5,7 @@ use Rattle.std.proofs.lemmas.Bool.{cases_eq, cases_lt, cases_Bool, ne_eqb}
 use Rattle.std.proofs.lemmas.List.{take_all, get_or_past, ext_get_or, length-replicate, get_or-replicate}
 use Rattle.std.proofs.lemmas.List.Sums.{count_by_more_yes, count_by_more_no}
 use Rattle.vod_queue.specs.State.{flag_at}
-use Rattle.vod_queue.proofs.Woken.{flag_within}
+use Rattle.vod_queue.proofs.Raised.{flag_within}
 use Rattle.vod_queue.specs.Flags.{digit_of, set_count, AreSums, AreSumsBut, IsTree}
 
 -- the counts of so many nodes from one on

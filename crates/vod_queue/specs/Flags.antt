@@ -15,6 +15,11 @@ set_count flags = count_by (λ flag. flag) flags
 abbrev pub set_all : List Bool → List ℕ → List Bool
 set_all flags places = fold (λ flags place. slice_set flags place true) flags places
 
+-- so it is where something happened, and else the flags are as they were
+abbrev pub set_where : Bool → List Bool → List ℕ → List Bool
+set_where true flags places = set_all flags places
+set_where false flags places = flags
+
 -- in a binary tree of counts that has its root at 1, each node counts what its children at 2n and 2n + 1 do
 abbrev pub AreSums : ℕ → List ℕ → Type 0
 AreSums leaves counts = (n : ℕ) → 1 ≤ n → n < leaves → slice_index counts n ≡ slice_index counts (2 * n) + slice_index counts (2 * n + 1)

@@ -11,16 +11,16 @@ ghost use Rattle.vod_queue.specs.Choice.{Takes};
 ghost use Rattle.vod_queue.specs.Weight.{weight_of};
 
 mod agenda;
+mod event;
+mod fanout;
 mod flags;
 mod orders;
-mod readers;
-#[cfg(test)]
-mod tests;
+mod updates;
 mod waiting;
 
 use crate::agenda::Agenda;
-pub use crate::orders::{orders_agree, orders_end};
-use crate::readers::Readers;
+use crate::fanout::Listeners;
+pub use crate::orders::{inputs_take_moves, orders_agree, orders_end};
 use std::alloc::{AllocError, Global};
 use std::marker::Model;
 use vod_design::thin::{Bit, Design, Move};
@@ -40,32 +40,37 @@ impl From<AllocError> for Memory {
 #[derive(Debug, Drop)]
 pub struct Queue<'d> {
     design: &'d Design,
-    readers: Readers,
+    listeners: Listeners,
     agenda: Agenda,
 }
 
 impl<'d> Model for Queue<'d> {
     ghost use Rattle.vod_queue.specs.Core.{Core, IsQueueOf};
+    ghost use Rattle.vod_design.specs.contracts.thin.Expr as e;
+    ghost use Rattle.std.specs.Coded.{codes};
 
     ghost Value = { Core };
 
+    ghost coded = { Prim.hlevel (codes, e.the_row.coded) };
+
     ghost view = { λ a. record { design = a.design.now; state = a.agenda } };
 
-    ghost invariant = { λ a. IsQueueOf a.design.now a.agenda a.readers };
+    ghost invariant = { λ a. IsQueueOf a.design.now a.agenda a.listeners };
 }
 
 impl<'d> Queue<'d> {
-    /// The queue at time 0, before any step: inputs are z, all else is x, and every driver
-    /// awaits evaluation. It takes all the memory that later calls need.
+    /// The queue at time 0, before any step: inputs are z, all else is x, each initial value is
+    /// left, every driver awaits evaluation and each block an edge. It takes all the memory that
+    /// later calls need.
     pub fn start(alloc: Global, design: &'d Design) -> Result<Queue<'d>, Memory>
         ensures core { IfOk result (λ queue. (queue.design ≡ design.now) × (queue.state ≡ start_of design.now)) }
         ensures accepted { IfOk result (λ queue. IsAccepted design.now) }
     {
-        let readers = Readers::of(alloc, design)?;
+        let listeners = Listeners::of(alloc, design)?;
         let agenda = Agenda::start(alloc, design)?;
         Ok(Queue {
             design,
-            readers,
+            listeners,
             agenda,
         })
     }
@@ -82,8 +87,9 @@ impl<'d> Queue<'d> {
         self.agenda.open_slot(self.design, moves);
     }
 
-    /// How many events may happen now: 0 exactly where nothing is left. They are numbered: moves
-    /// by input number, then evaluations and then updates by driver number.
+    /// How many events may happen now: 0 exactly where nothing is left. They are numbered by kind:
+    /// moves, evaluations, updates, statements, initial values, the activation, and nonblocking
+    /// updates that are active; and then by input, driver, block or initial number.
     pub fn choices(&self) -> u32
         ensures count { result ≡ length (choices_of self.now.state) }
         ensures none { (result ≡ 0) ↔ IsResting self.now.state }
@@ -99,7 +105,8 @@ impl<'d> Queue<'d> {
         ensures stepped { Takes self.old.design self.old.state choice self.new.state }
         ensures falls { weight_of self.new.state < weight_of self.old.state }
     {
-        self.agenda.step(self.design, &self.readers, choice);
+        let event = self.agenda.event(choice);
+        self.agenda.take(self.design, &self.listeners, event);
     }
 
     /// The value of a signal.

@@ -1,5 +1,6 @@
 //! A value by place, or none, where values wait to be taken.
-ghost use Rattle.std.specs.Prelude.{◌≡◌, ◌+◌, ◌<◌, ◌^◌, length, take, replicate, slice_set, count_by, is_some, Some, None, IfOk};
+ghost use Rattle.std.specs.Prelude.{◌≡◌, ◌+◌, ◌<◌, ◌^◌, length, take, replicate, slice_set, count_by, is_some, unwrap_or, None, IsTrue, IfOk};
+ghost use Rattle.vod_design.specs.declared.thin.Bit.TheVariants.{X};
 ghost use Rattle.vod_queue.specs.State.{option_at};
 
 use crate::flags::Flags;
@@ -56,19 +57,27 @@ impl Waiting {
         self.filled.write(place, bit.is_some());
     }
 
-    /// Takes the value before which `nth` others stand, and answers its place and it.
+    /// The place with a value before which `nth` others have one.
     #[tactic(auto, using(crate::proofs::Count::filled))]
-    pub fn take(&mut self, nth: u32) -> (u32, Bit)
-        requires { nth < count_by is_some self.old }
-        ensures taken { self.new ≡ slice_set self.old result.0 None }
-        ensures within { result.0 < length self.old }
-        ensures value { option_at self.old result.0 ≡ Some result.1 }
-        ensures nth { count_by is_some (take result.0 self.old) ≡ nth }
+    pub fn find(&self, nth: u32) -> u32
+        requires { nth < count_by is_some self.now }
+        ensures within { result < length self.now }
+        ensures some { IsTrue (is_some (option_at self.now result)) }
+        ensures nth { count_by is_some (take result self.now) ≡ nth }
     {
-        let place = self.filled.find(nth);
+        self.filled.find(nth)
+    }
+
+    /// Takes the value at a place.
+    #[tactic(auto, using(crate::proofs::Count::filled))]
+    pub fn take(&mut self, place: u32) -> Bit
+        requires { IsTrue (is_some (option_at self.old place)) }
+        ensures value { result ≡ unwrap_or (option_at self.old place) X }
+        ensures taken { self.new ≡ slice_set self.old place None }
+    {
         let bit = self.bits[place as usize].unwrap_or(Bit::X);
         self.bits[place as usize] = None;
         self.filled.write(place, false);
-        (place, bit)
+        bit
     }
 }

@@ -1,3 +1,4 @@
+use Rattle.vod_queue.proofs.Orderly.{IsOrderly-start_of}
 use Rattle.vod_queue.proofs.Shaped.{IsShaped-start_of}
 use Rattle.vod_queue.proofs.Queue.start.Goals as goal
 
@@ -5,5 +6,6 @@ pub invariant_of-result : goal.invariant_of-result
 invariant_of-result c = record {
   accepted = c.in_ok-agenda.ensures.accepted;
   shaped = rw c.in_ok-agenda.ensures.state (IsShaped-start_of c.args.design.now);
-  index = c.in_ok-readers.ensures;
+  orderly = rw c.in_ok-agenda.ensures.state (IsOrderly-start_of c.args.design.now);
+  listed = c.in_ok-listeners.ensures;
 }
