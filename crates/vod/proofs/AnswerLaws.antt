@@ -45,3 +45,10 @@ asked w P source d vs told is reads holds = λ bytes e text f. (
   record { read = sym (told bytes e); design = subst (λ b. IsSource b d) (sym (told bytes e)) is; vectors = reads text f },
   holds,
 )
+
+-- the same, of a source and vectors that are equal
+abbrev pub request : List ℕ → Netlist → List Vector → Request
+request source d vs = record { source = source; design = d; vectors = vs }
+
+pub same_request : (P : Request → Type 0) (a b : List ℕ) (d : Netlist) (vs ws : List Vector) → a ≡ b → vs ≡ ws → P (request a d vs) → P (request b d ws)
+same_request P a b d vs ws sources vectors p = subst (λ x. P (request b d x)) vectors (subst (λ x. P (request x d vs)) sources p)

@@ -13,3 +13,7 @@ two_words [] n action = absurd (omega (arith, n))
 two_words (w ∷ []) n action = absurd (omega (arith, n))
 two_words (w ∷ x ∷ []) n action = record { design = x; words_are = ap (λ v. v ∷ x ∷ []) action }
 two_words (w ∷ x ∷ y ∷ ys) n action = absurd (omega (arith, n))
+
+-- other than two words are no command
+pub not_two : (words : List (List ℕ)) → (length words ≡ 2 → ⊥) → IsDump words → ⊥
+not_two words other d = other (ap length d.words_are)

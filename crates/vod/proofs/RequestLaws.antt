@@ -40,6 +40,11 @@ moments_last d s [] ends t h = refl
 moments_last d s (v ∷ vs) [] t h = absurd h
 moments_last d s (v ∷ vs) (e ∷ es) t h = moments_last d e vs es v.time h.1
 
+-- the last of some vectors stands last
+pub last_time_of : (t : ℕ) (front : List Vector) (w : Vector) → last_time_after t (front ++ w ∷ []) ≡ w.time
+last_time_of t [] w = refl
+last_time_of t (v ∷ vs) w = last_time_of v.time vs w
+
 all_cons : (P : Moment → Type 0) (m : Moment) (ms : List Moment) → P m → All P ms → All P (m ∷ ms)
 all_cons P m ms here behind zero x h = here
 all_cons P m ms here behind (suc k) x h = behind k x (omega arith)

@@ -6,6 +6,7 @@ use Rattle.vod_design.specs.Names.{HasPlainNames}
 use Rattle.vod_thin.specs.Thin as thin
 use Rattle.vod_thin_script.specs.Script as script
 use Rattle.vod.specs.Sources.{IsSource, IsRefusedSource}
+use Rattle.vod.proofs.PhaseLaws.{lt_false}
 
 -- a source is one design or is refused at one place, and a script is read or refused at one line
 pub record OneAnswer : Type 0 where
@@ -34,20 +35,10 @@ OneLine = (d : Netlist) → HasPlainNames d → (bytes : List ℕ) (line other :
 abbrev pub Unread : Type 0
 Unread = (d : Netlist) → HasPlainNames d → (bytes : List ℕ) (line : ℕ) (vs : List Vector) → script.IsRefused d bytes line → script.IsScript d bytes vs → ⊥
 
-no_more : (a b : ℕ) → b ≤ a → nat_lt a b ≡ false
-no_more a b h = by_test (nat_lt a b) refl
-  where
-    by_test : (t : Bool) → nat_lt a b ≡ t → nat_lt a b ≡ false
-    by_test true e = absurd (omega (arith, h, lt_of a b e))
-    by_test false e = e
-
-    lt_of : (a b : ℕ) → nat_lt a b ≡ true → a < b
-    lt_of a b e = grind (arith, nat_tests, e)
-
 -- what is judged of a source that is short is the whole of it
 whole : (source : List ℕ) (d : Netlist) (p : ℕ) → IsSource source d → IsRefusedSource source p → thin.IsRefused source false p
 whole source d p is refused =
-    subst (λ s. thin.IsRefused s false p) (take_all (2 ^ 20) source is.short) (subst (λ m. thin.IsRefused (take (2 ^ 20) source) m p) (no_more (2 ^ 20) (length source) is.short) refused)
+    subst (λ s. thin.IsRefused s false p) (take_all (2 ^ 20) source is.short) (subst (λ m. thin.IsRefused (take (2 ^ 20) source) m p) (lt_false (2 ^ 20) (length source) is.short) refused)
 
 pub one_answer : OneDesign → OnePlace → ThinApart → PlainNames → OneLine → Unread → OneAnswer
 one_answer designs places apart plain lines unread = record {

@@ -1,12 +1,13 @@
 -- Lists of events, one more at a time.
-use Rattle.std.proofs.Common.{◌≡◌, ℕ, List, [], ◌∷◌, ◌++◌, refl, sym, ap, subst, ◌∙◌, IsTrue}
+use Rattle.std.proofs.Common.{◌≡◌, ℕ, ◌<◌, length, All, List, [], ◌∷◌, ◌++◌, refl, sym, ap, subst, ◌∙◌, IsTrue}
 use Rattle.vod_design.specs.Netlist.{Netlist, IsAccepted}
 use Rattle.vod_design.specs.declared.thin.Move.{Move}
 use Rattle.std.proofs.lemmas.List.Elements.{All-nil, All-cons, All-head, All-tail}
 use Rattle.vod_design.specs.declared.thin.Vector.{Vector}
-use Rattle.vod_design.specs.Vectors.{IsVector, IsLawful, is_unmixed}
+use Rattle.vod_design.specs.Vectors.{IsVector, IsLawful, is_unmixed, assigned}
 use Rattle.vod_queue.specs.State.{State, start_of, opened, IsShaped, IsResting}
-use Rattle.vod_queue.specs.Step.{Event, is_allowed, after}
+use Rattle.vod_queue.specs.declared.event.Event.{Event}
+use Rattle.vod_queue.specs.Step.{is_allowed, after}
 use Rattle.vod_queue.specs.Choice.{Takes}
 use Rattle.vod_queue.specs.Run.{Steps, Completes, IsSlot, IsSettled, HasTaken, is_unmixed_from}
 use Rattle.vod.specs.Progress.{IsReady, Awaits}
@@ -43,11 +44,11 @@ completes_from d e u t same_design at completes = subst (λ v. Completes d v t) 
 pub record Goes : Type 0 where
   pub settled : (d : Netlist) (s t : State) (moves : List Move) → IsAccepted d → IsShaped d s → IsSettled d s → IsTrue (is_unmixed_from d s moves) → IsSlot d s moves t → IsShaped d t × IsSettled d t
   pub next : (d : Netlist) (s t : State) (before : List Move) (vector : Vector) → IsAccepted d → IsShaped d s → HasTaken d before s → IsVector d vector → IsSlot d s vector.moves t → HasTaken d (before ++ vector.moves) t
-  pub unmixed : (d : Netlist) (s : State) (before moves : List Move) → HasTaken d before s → IsTrue (is_unmixed d before moves) → IsTrue (is_unmixed_from d s moves)
+  pub unmixed : (d : Netlist) (s : State) (before moves : List Move) → All (λ i. i < length d.inputs) (assigned moves) → HasTaken d before s → IsTrue (is_unmixed d before moves) → IsTrue (is_unmixed_from d s moves)
 
 -- what the first of the vectors changes is unmixed
 pub unmixed_first : Goes → (d : Netlist) (s : State) (v : Vector) (rest : List Vector) → Awaits d s (v ∷ rest) → IsTrue (is_unmixed_from d s v.moves)
-unmixed_first goes d s v rest a = goes.unmixed d s a.given v.moves a.taken a.unmixed.0
+unmixed_first goes d s v rest a = goes.unmixed d s a.given v.moves (All-head (IsVector d) v rest a.forms).inputs a.taken a.unmixed.0
 
 -- behind the slot of the first, the others may come
 pub goes_on : Goes → (d : Netlist) (s t : State) (v : Vector) (rest : List Vector) → Awaits d s (v ∷ rest) → IsSlot d s v.moves t → Awaits d t rest

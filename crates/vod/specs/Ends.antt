@@ -42,7 +42,7 @@ plain_line stop.Memory = codes "out of memory" ++ 10 ∷ []
 -- the line of a stop
 abbrev pub line_of : Stop → List ℕ
 line_of stop.Usage = plain_line stop.Usage
-line_of (stop.NotYet p place) = (codes "not yet: " ++ part_name p) ++ decimal place ++ 10 ∷ []
+line_of (stop.NotYet p place) = (codes "not yet: " ++ part_name p) ++ (decimal place ++ 10 ∷ [])
 line_of stop.Read = plain_line stop.Read
 line_of stop.Write = plain_line stop.Write
 line_of stop.Memory = plain_line stop.Memory

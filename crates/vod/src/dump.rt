@@ -8,8 +8,6 @@ use crate::status::{Part, Stop};
 use crate::window::write_dump;
 use std::alloc::Global;
 use vod_io::{Sink, Source};
-use vod_thin::one_design;
-use vod_thin_script::one_reading;
 
 /// Writes the full dump of the design over the vectors of the input.
 pub fn dump<D: Source, S: Source, K: Sink>(
@@ -37,9 +35,6 @@ pub fn dump<D: Source, S: Source, K: Sink>(
     ensures input_counted { S.faults input.old ≤ S.faults input.new }
     ensures out_counted { K.faults out.old ≤ K.faults out.new }
 {
-    // Laws of the readers, which do nothing when they run.
-    one_design();
-    one_reading();
     if !is_dump(words) {
         return Err(Stop::Usage);
     }

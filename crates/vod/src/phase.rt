@@ -1,5 +1,5 @@
 //! The phases of a command: the bytes of a source, its design, and the vectors of a script.
-ghost use Rattle.std.specs.Prelude.{◌≡◌, ◌≤◌, ◌^◌, ℕ, List, Err, take, nat_lt, length, IfOk, IfErr};
+ghost use Rattle.std.specs.Prelude.{◌≡◌, ◌≤◌, ◌^◌, ℕ, List, Err, take, nat_lt, length, IsTrue, IfOk, IfErr};
 ghost use Rattle.vod_io.specs.Told.{Told, Tells};
 ghost use Rattle.vod_io.specs.Faults.{Rose};
 ghost use Rattle.vod_design.specs.Names.{HasPlainNames};
@@ -91,6 +91,7 @@ pub struct Reading {
 /// The first 1,048,576 bytes of a source, and whether there are more.
 fn bytes_of<S: Source>(alloc: Global, source: &mut S) -> Result<Filled, PhaseFault>
     ensures few { IfOk result (λ filled. length filled.bytes.items ≤ 2 ^ 20) }
+    ensures full { IfOk result (λ filled. IsTrue filled.more → length filled.bytes.items ≡ 2 ^ 20) }
     ensures front { IfOk result (λ filled. Tells (S.left source.old) (λ text. filled.bytes.items ≡ take (2 ^ 20) text)) }
     ensures more { IfOk result (λ filled. Tells (S.left source.old) (λ text. filled.more ≡ nat_lt (2 ^ 20) (length text))) }
     ensures refused { IfErr result (λ fault. Refuses fault (λ _. ⊥)) }

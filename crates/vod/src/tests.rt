@@ -36,13 +36,18 @@ const GATES: &str =
 
 const SCRIPT: &str = "1 a=1 b=0\n2 b=1\n3 a=0\n";
 
-const WORDS: [&str; 4] = ["dump", "g", "1", "3"];
+const WORDS: [&str; 2] = ["dump", "g"];
 
 /// The digest is what `sha256sum` prints of the design.
 const HEADER: &str =
     "$version vod 1 $end\n$comment source sha256 5a6c5dda2d893b15b7909d04c1ed6d55fcc2c2a8ab213e799ad8be4d53116f30 $end\n$timescale 1 ns $end\n$scope module g $end\n$var wire 1 ! a $end\n$var wire 1 \" b $end\n$var wire 1 # x $end\n$var wire 1 $ y $end\n$upscope $end\n$enddefinitions $end\n";
 
-const WINDOW: &str = "#1\n$dumpvars\n1!\n0\"\n1#\n1$\n$end\n#2\n1\"\n0#\n0$\n#3\n0!\n1$\n";
+const DUMP: &str =
+    "#0\n$dumpvars\nz!\nz\"\nx#\nx$\n$end\n#1\n1!\n0\"\n1#\n1$\n#2\n1\"\n0#\n0$\n#3\n0!\n1$\n";
+
+/// A register that takes its input at each edge of a clock.
+const FLIP_FLOP: &str =
+    "module f (input clk, input d, output q); reg r = 0; always @(posedge clk) r <= d; assign q = r; endmodule";
 
 fn call(
     alloc: Global,
@@ -87,51 +92,73 @@ fn refused(
     Ok(())
 }
 
+fn dumped(alloc: Global, design: &str, script: &str) -> Result<Answer, Fail> {
+    call(alloc, &WORDS, design, script, NONE)
+}
+
 #[test]
 fn gates(rt: HostRuntime) -> Result<(), Fail> {
-    let answer = call(rt.alloc(), &WORDS, GATES, SCRIPT, NONE)?;
+    let answer = dumped(rt.alloc(), GATES, SCRIPT)?;
     assert_eq!(rt; answer.status, Status::Ok);
     assert_eq!(rt; answer.status.code(), 0);
     assert_eq!(rt; answer.err.len(), 0);
     let mut text = String::from_str(rt.alloc(), HEADER)?;
-    text.push_str(WINDOW)?;
+    text.push_str(DUMP)?;
     assert_eq!(rt; answer.out.as_slice(), text.as_bytes());
     Ok(())
 }
 
-// The files of examples/first-window.
-const HALF_ADDERS: &str =
-    "module half_adders (\n  input a0, input b0, input a1, input b1,\n  output s0, output c0, output s1, output c1\n);\n  assign s0 = a0 ^ b0;\n  assign c0 = a0 & b0;\n  assign s1 = a1 ^ b1;\n  assign c1 = a1 & b1;\nendmodule\n";
-
-const HALF_ADDERS_SCRIPT: &str =
-    "10 a0=0 b0=0 a1=0 b1=0\n20 a0=1\n30 b0=1 a1=1\n40 b1=1\n50 a0=0 b0=0\n60 a1=0\n70 b1=0\n";
-
-const HALF_ADDERS_WINDOW: &str =
-    "$version vod 1 $end\n$comment source sha256 79adc45bd1ed3a2f60c8c96e902f23b812c8f6f92a64b3b2e66c42a963b4ca8e $end\n$timescale 1 ns $end\n$scope module half_adders $end\n$var wire 1 ! a0 $end\n$var wire 1 \" b0 $end\n$var wire 1 # a1 $end\n$var wire 1 $ b1 $end\n$var wire 1 % s0 $end\n$var wire 1 & c0 $end\n$var wire 1 ' s1 $end\n$var wire 1 ( c1 $end\n$upscope $end\n$enddefinitions $end\n#20\n$dumpvars\n1!\n0\"\n0#\n0$\n1%\n0&\n0'\n0(\n$end\n#30\n1\"\n1#\n0%\n1&\n1'\n#40\n1$\n0'\n1(\n#50\n0!\n0\"\n0&\n#60\n0#\n1'\n0(\n";
+/// The digest is what `sha256sum` prints of the design.
+const FLIP_FLOP_DUMP: &str =
+    "$version vod 1 $end\n$comment source sha256 1bffdf37e5a21a57cdfd7e7e3a8757ecf6a50a5a3ce6e608b38e56962cebc169 $end\n$timescale 1 ns $end\n$scope module f $end\n$var wire 1 ! clk $end\n$var wire 1 \" d $end\n$var wire 1 # q $end\n$var reg 1 $ r $end\n$upscope $end\n$enddefinitions $end\n#0\n$dumpvars\nz!\nz\"\n0#\n0$\n$end\n#10\n1\"\n#20\n0!\n#30\n1!\n1#\n1$\n";
 
 #[test]
-fn first_window(rt: HostRuntime) -> Result<(), Fail> {
-    let words = ["dump", "half_adders.v", "20", "60"];
-    let answer = call(rt.alloc(), &words, HALF_ADDERS, HALF_ADDERS_SCRIPT, NONE)?;
+fn flip_flop(rt: HostRuntime) -> Result<(), Fail> {
+    let answer = dumped(rt.alloc(), FLIP_FLOP, "10 d=1\n20 clk=0\n30 clk=1\n")?;
     assert_eq!(rt; answer.status, Status::Ok);
-    assert_eq!(rt; answer.out.as_slice(), HALF_ADDERS_WINDOW.as_bytes());
+    assert_eq!(rt; answer.out.as_slice(), FLIP_FLOP_DUMP.as_bytes());
+    Ok(())
+}
+
+// The files of examples/first-dump.
+const COUNTER: &str =
+    "module counter (input clk, input enable, output low, output high);\n  reg r0 = 0;\n  reg r1 = 0;\n  always @(posedge clk) r0 <= r0 ^ enable;\n  always @(posedge clk) r1 <= r1 ^ (r0 & enable);\n  assign low = r0;\n  assign high = r1;\nendmodule\n";
+
+const COUNTER_SCRIPT: &str =
+    "10 enable=1\n20 clk=0\n30 clk=1\n40 clk=0\n50 clk=1\n60 clk=0\n70 enable=0\n80 clk=1\n90 clk=0\n100 enable=1\n110 clk=1\n";
+
+const COUNTER_DUMP: &str =
+    "$version vod 1 $end\n$comment source sha256 a99cde376fde4d174c63864e01c48dcf62efcc6fe7e69933e2360a84280d16b7 $end\n$timescale 1 ns $end\n$scope module counter $end\n$var wire 1 ! clk $end\n$var wire 1 \" enable $end\n$var wire 1 # low $end\n$var wire 1 $ high $end\n$var reg 1 % r0 $end\n$var reg 1 & r1 $end\n$upscope $end\n$enddefinitions $end\n#0\n$dumpvars\nz!\nz\"\n0#\n0$\n0%\n0&\n$end\n#10\n1\"\n#20\n0!\n#30\n1!\n1#\n1%\n#40\n0!\n#50\n1!\n0#\n1$\n0%\n1&\n#60\n0!\n#70\n0\"\n#80\n1!\n#90\n0!\n#100\n1\"\n#110\n1!\n1#\n1%\n";
+
+#[test]
+fn first_dump(rt: HostRuntime) -> Result<(), Fail> {
+    let answer = dumped(rt.alloc(), COUNTER, COUNTER_SCRIPT)?;
+    assert_eq!(rt; answer.status, Status::Ok);
+    assert_eq!(rt; answer.out.as_slice(), COUNTER_DUMP.as_bytes());
+    Ok(())
+}
+
+// A script without vectors has the values of slot 0 alone.
+#[test]
+fn no_vectors(rt: HostRuntime) -> Result<(), Fail> {
+    let answer = dumped(rt.alloc(), GATES, "")?;
+    assert_eq!(rt; answer.status, Status::Ok);
+    let mut text = String::from_str(rt.alloc(), HEADER)?;
+    text.push_str("#0\n$dumpvars\nz!\nz\"\nx#\nx$\n$end\n")?;
+    assert_eq!(rt; answer.out.as_slice(), text.as_bytes());
     Ok(())
 }
 
 #[test]
 fn words_that_are_no_command(rt: HostRuntime) -> Result<(), Fail> {
     let line = "usage: vod [--every N] ACTION [ARGS]..\n";
-    let lists: [&[&str]; 10] = [
+    let lists: [&[&str]; 6] = [
         &[],
         &["dump"],
         &["dump", "g", "1"],
-        &["dump", "g", "1", "3", "4"],
-        &["record", "g", "1", "3"],
-        &["dump", "g", "", "3"],
-        &["dump", "g", "-1", "3"],
-        &["dump", "g", "1", "0x3"],
-        &["dump", "g", "1", "9223372036854775808"],
-        &["dump", "g", "00000000000000000001", "3"],
+        &["dump", "g", "1", "3"],
+        &["record", "g"],
+        &["dumps", "g"],
     ];
     for words in lists.iter() {
         refused(&rt, rt.alloc(), words, GATES, SCRIPT, Status::Usage, line)?;
@@ -141,65 +168,54 @@ fn words_that_are_no_command(rt: HostRuntime) -> Result<(), Fail> {
 }
 
 #[test]
-fn designs_and_scripts_that_are_refused(rt: HostRuntime) -> Result<(), Fail> {
-    let design = Status::NotYet { part: Part::Design };
-    let registers = "module g (input a, output x); reg r; endmodule";
-    refused(
-        &rt,
-        rt.alloc(),
-        &WORDS,
-        registers,
-        SCRIPT,
-        design,
-        "not yet: design\n",
-    )?;
-    refused(&rt, rt.alloc(), &WORDS, "", "", design, "not yet: design\n")?;
-    let script = Status::NotYet { part: Part::Script };
-    for text in [
-        "1 a=1\n",
-        "1 a=1 b=0\n1 a=0\n",
-        "1 a=1 b=0",
-        "1 a=1 c=0\n",
-        "0 a=1 b=0\n",
-    ] {
-        refused(
-            &rt,
-            rt.alloc(),
-            &WORDS,
-            GATES,
-            text,
-            script,
-            "not yet: script\n",
-        )?;
+fn designs_that_are_refused(rt: HostRuntime) -> Result<(), Fail> {
+    let rows = [
+        (
+            "module g (input a, output x); reg r; endmodule",
+            35,
+            "not yet: design at 35\n",
+        ),
+        ("", 0, "not yet: design at 0\n"),
+        (
+            "module g (input a, output x); assign x = b; endmodule",
+            41,
+            "not yet: design at 41\n",
+        ),
+    ];
+    for (source, place, line) in rows.iter() {
+        let status = Status::NotYet {
+            part: Part::Design,
+            place: *place,
+        };
+        refused(&rt, rt.alloc(), &WORDS, source, SCRIPT, status, line)?;
+        assert_eq!(rt; status.code(), 12);
     }
-    assert_eq!(rt; script.code(), 12);
     Ok(())
 }
 
 #[test]
-fn windows_that_are_refused(rt: HostRuntime) -> Result<(), Fail> {
-    let window = Status::NotYet { part: Part::Window };
-    for (from, to) in [("0", "3"), ("1", "4"), ("3", "2")] {
-        let words = ["dump", "g", from, to];
-        refused(
-            &rt,
-            rt.alloc(),
-            &words,
-            GATES,
-            SCRIPT,
-            window,
-            "not yet: window\n",
-        )?;
+fn scripts_that_are_refused(rt: HostRuntime) -> Result<(), Fail> {
+    let rows = [
+        (GATES, "1 a=1\n", 1, "not yet: script line 1\n"),
+        (GATES, "1 a=1 b=0\n1 a=0\n", 2, "not yet: script line 2\n"),
+        (GATES, "1 a=1 b=0", 1, "not yet: script line 1\n"),
+        (GATES, "1 a=1 b=0\n2 c=0\n", 2, "not yet: script line 2\n"),
+        (
+            FLIP_FLOP,
+            "10 d=1\n20 clk=0\n30 clk=1 d=0\n",
+            3,
+            "not yet: script line 3\n",
+        ),
+        (FLIP_FLOP, "10 clk=1\n", 1, "not yet: script line 1\n"),
+    ];
+    for (source, script, place, line) in rows.iter() {
+        let status = Status::NotYet {
+            part: Part::Script,
+            place: *place,
+        };
+        refused(&rt, rt.alloc(), &WORDS, source, script, status, line)?;
     }
-    refused(
-        &rt,
-        rt.alloc(),
-        &["dump", "g", "0", "0"],
-        GATES,
-        "",
-        window,
-        "not yet: window\n",
-    )
+    Ok(())
 }
 
 #[test]
@@ -240,7 +256,9 @@ fn faults(rt: HostRuntime) -> Result<(), Fail> {
             ..NONE
         },
     )?;
-    assert_eq!(rt; both.status, Status::NotYet { part: Part::Design });
+    let place = 6;
+    let part = Part::Design;
+    assert_eq!(rt; both.status, Status::NotYet { part, place });
     Ok(())
 }
 

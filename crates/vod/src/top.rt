@@ -8,7 +8,8 @@ use crate::dump::dump;
 use crate::status::{Status, report};
 use std::alloc::Global;
 use vod_io::{Sink, Source};
-use vod_thin::one_design;
+use vod_thin::{one_design, one_place, plain_names};
+use vod_thin_script::one_refusal;
 
 /// Runs the command that the words are: `dump DESIGN` writes on `out` the full dump of the design over
 /// the vectors of `input`, as each legal run of the event queue gives it. Each status but `Ok` and
@@ -47,8 +48,11 @@ pub fn vod<D: Source, S: Source, K: Sink, E: Sink>(
     ensures out_counted { K.faults out.old ≤ K.faults out.new }
     ensures err_counted { E.faults err.old ≤ E.faults err.new }
 {
-    // A law of the reader, which does nothing when it runs.
+    // Laws of the readers, which do nothing when they run.
     one_design();
+    one_place();
+    plain_names();
+    one_refusal();
     match dump(alloc, words, design, input, out) {
         Ok(()) => Status::Ok,
         Err(stop) => report(stop, err),

@@ -20,6 +20,7 @@ mod waiting;
 
 use crate::agenda::Agenda;
 use crate::fanout::Listeners;
+pub use crate::event::Event;
 pub use crate::orders::{inputs_take_moves, orders_agree, orders_end};
 use std::alloc::{AllocError, Global};
 use std::marker::Model;

@@ -1,5 +1,6 @@
 use Rattle.std.proofs.Common.{map, string_bytes, ap}
 use Rattle.vod.specs.Answer.{Count, World}
+use Rattle.vod.proofs.SourceLaws.{OneAnswer, one_answer}
 use Rattle.vod.proofs.CausedLaws.{answered_ok, answered_stop}
 use Rattle.vod.proofs.top.vod.Goals as goal
 
@@ -15,7 +16,8 @@ returns-in-Ok-clause-answered g c =
       input_faults = record { before = g.S.Source.faults c.args.input.now; after = g.S.Source.faults c.dump.new.input };
       out_faults = record { before = g.K.Sink.faults c.args.out.now; after = g.K.Sink.faults c.dump.new.out };
     } in
-    answered_ok c.one_design.ensures w _ c.in-Ok.field-0 c.in-Ok.ensures.answers
+    let one : OneAnswer = one_answer c.one_design.ensures c.one_place.ensures.refused c.one_place.ensures.thin c.plain_names.ensures c.one_refusal.ensures.line c.one_refusal.ensures.unread in
+    answered_ok one w _ c.in-Ok.field-0 c.in-Ok.ensures.answers
 
 pub returns-in-Err-clause-answered : goal.returns-in-Err-clause-answered
 returns-in-Err-clause-answered g c =
@@ -29,5 +31,6 @@ returns-in-Err-clause-answered g c =
       input_faults = record { before = g.S.Source.faults c.args.input.now; after = g.S.Source.faults c.dump.new.input };
       out_faults = record { before = g.K.Sink.faults c.args.out.now; after = g.K.Sink.faults c.dump.new.out };
     } in
+    let one : OneAnswer = one_answer c.one_design.ensures c.one_place.ensures.refused c.one_place.ensures.thin c.plain_names.ensures c.one_refusal.ensures.line c.one_refusal.ensures.unread in
     let err : Count = record { before = g.E.Sink.faults c.args.err.now; after = g.E.Sink.faults c.report.new.err } in
-    answered_stop c.one_design.ensures w err c.in-Err.stop c.report.result c.in-Err.ensures.answers c.report.ensures.caused (λ q. ap g.K.Sink.taken (c.in-Err.ensures.quiet q))
+    answered_stop one w err c.in-Err.stop c.report.result c.in-Err.ensures.answers c.report.ensures.caused (λ q. ap g.K.Sink.taken (c.in-Err.ensures.quiet q))
