@@ -44,11 +44,13 @@ has_active-count s =
     let i = any-count (λ flag. flag) s.init in
     let n = any-count is_filled s.now in
     rw (m, w, p, t, i, n)
-    (rw (or_counts (count_by is_some s.moves) (set_count s.wake),
-    or_counts (count_by is_some s.moves + set_count s.wake) (count_by is_some s.pend),
-    or_counts (count_by is_some s.moves + set_count s.wake + count_by is_some s.pend) (set_count s.todo),
-    or_counts (count_by is_some s.moves + set_count s.wake + count_by is_some s.pend + set_count s.todo) (set_count s.init),
-    or_counts (count_by is_some s.moves + set_count s.wake + count_by is_some s.pend + set_count s.todo + set_count s.init) (count_by is_filled s.now)) refl)
+    (rw (
+      or_counts (count_by is_some s.moves) (set_count s.wake),
+      or_counts (count_by is_some s.moves + set_count s.wake) (count_by is_some s.pend),
+      or_counts (count_by is_some s.moves + set_count s.wake + count_by is_some s.pend) (set_count s.todo),
+      or_counts (count_by is_some s.moves + set_count s.wake + count_by is_some s.pend + set_count s.todo) (set_count s.init),
+      or_counts (count_by is_some s.moves + set_count s.wake + count_by is_some s.pend + set_count s.todo + set_count s.init) (count_by is_filled s.now),
+    ) refl)
 
 not_not : (b : Bool) → not (not b) ≡ b
 not_not true = refl
@@ -278,10 +280,13 @@ total_none (suc a) l h = absurd (omega arith)
 pub counts_choices : (s now : State) → now ≡ s → (n active later : ℕ) → active ≡ active_of now → later ≡ count_by is_filled now.later → n ≡ active + activations_of active later → (n ≡ length (choices_of s)) × ((n ≡ 0) ↔ IsResting s)
 counts_choices s now same n active later is_active is_later is =
     rw (← same)
-    (let e : n ≡ active_of now + activations_of (active_of now) (count_by is_filled now.later) = is ∙ rw (is_active, is_later) refl in
-    (e ∙ sym (length-choices_of now),
-    ((λ zeros. let both = total_none (active_of now) (count_by is_filled now.later) (sym e ∙ zeros) in resting_from_counts now both.0 both.1),
-    (λ rests. let both = counts_from_resting now rests in e ∙ rw (both.0, both.1) refl))))
+    (let e : n ≡ active_of now + activations_of (active_of now) (count_by is_filled now.later) = is ∙ rw (is_active, is_later) refl in (
+      e ∙ sym (length-choices_of now),
+      (
+        (λ zeros. let both = total_none (active_of now) (count_by is_filled now.later) (sym e ∙ zeros) in resting_from_counts now both.0 both.1),
+        (λ rests. let both = counts_from_resting now rests in e ∙ rw (both.0, both.1) refl),
+      ),
+    ))
 
 pub active_is : (s : State) (m w p t i n : ℕ) → m ≡ count_by is_some s.moves → w ≡ set_count s.wake → p ≡ count_by is_some s.pend → t ≡ set_count s.todo → i ≡ set_count s.init → n ≡ count_by is_filled s.now → m + w + p + t + i + n ≡ active_of s
 active_is s m w p t i n is_m is_w is_p is_t is_i is_n = rw (is_m, is_w, is_p, is_t, is_i, is_n) refl

@@ -101,15 +101,16 @@ ClockedEnd d opening t =
     × ((n : ℕ) → is_register d n ≡ true → has (assigned_registers d.blocks) n ≡ false → value_at t.val n ≡ value_at opening.val n)
 
 quiet_end : (d : Netlist) (opening t : State) → IsAccepted d → IsResting t → IsQuiet d opening t → ClockedEnd d opening t
-quiet_end d opening t a rests quiet =
-    ((λ k i block at hi clock.
-    let over : list_at t.later k ≡ fired d opening i block =
-    stage_over (option_at t.moves i) (value_at t.val block.clock) (value_at opening.val block.clock) (flag_at t.todo k) (list_at t.later k) (value_of block.value (value_at opening.val)) (fired d opening i block)
-    (default_at None t.moves rests.moves i) (default_at false t.todo rests.todo k) (quiet.stages k i block at hi clock) in
-    let none : fired d opening i block ≡ [] = sym over ∙ default_at [] t.later rests.later k in
-    let register : is_register d block.register ≡ true = rw (field_at (λ (b : Block). b.register) d.blocks k block at) at (a.assigns_registers k 0 (rw length-map (slice_get_within d.blocks k block at))) in
-    quiet.still block.register (no_clock d block.register (register_no_input d a block.register register)) ∙ ap (last_of (value_at opening.val block.register)) (sym none)),
-    (λ n register free. quiet.still n (no_clock d n (register_no_input d a n register))))
+quiet_end d opening t a rests quiet = (
+  (λ k i block at hi clock.
+      let over : list_at t.later k ≡ fired d opening i block =
+      stage_over (option_at t.moves i) (value_at t.val block.clock) (value_at opening.val block.clock) (flag_at t.todo k) (list_at t.later k) (value_of block.value (value_at opening.val)) (fired d opening i block)
+      (default_at None t.moves rests.moves i) (default_at false t.todo rests.todo k) (quiet.stages k i block at hi clock) in
+      let none : fired d opening i block ≡ [] = sym over ∙ default_at [] t.later rests.later k in
+      let register : is_register d block.register ≡ true = rw (field_at (λ (b : Block). b.register) d.blocks k block at) at (a.assigns_registers k 0 (rw length-map (slice_get_within d.blocks k block at))) in
+      quiet.still block.register (no_clock d block.register (register_no_input d a block.register register)) ∙ ap (last_of (value_at opening.val block.register)) (sym none)),
+  (λ n register free. quiet.still n (no_clock d n (register_no_input d a n register))),
+)
 
 late_end : (d : Netlist) (opening t : State) → IsResting t → IsLate d opening t → ClockedEnd d opening t
 late_end d opening t rests late =

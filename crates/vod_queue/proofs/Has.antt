@@ -1,7 +1,7 @@
 -- Whether a list of numbers has one.
 use Rattle.std.proofs.Common.{◌≡◌, ℕ, ◌<◌, ◌==◌, subst, ◌||◌, Bool, true, false, List, [], ◌∷◌, ◌++◌, length, get_or, refl, ⊎_elim, ap, ◌∙◌, All, eq-eqb}
 use Rattle.std.proofs.lemmas.Bool.{or_cases, eqb-true}
-use Rattle.std.proofs.lemmas.List.Elements.{All-head, All-tail, All-nil, All-cons}
+use Rattle.std.proofs.lemmas.List.Elements.{All-head, All-tail}
 use Rattle.std.proofs.lemmas.List.Folds.{list_any-append, list_any_at}
 use Rattle.vod_design.specs.Netlist.{has}
 
@@ -28,12 +28,3 @@ has-push ns m n = has-append ns (m ∷ []) n ∙ ap (λ b. has ns n || b) (or-fa
 -- a list has the number at each of its places
 pub has-get_or : (ns : List ℕ) (i d : ℕ) → i < length ns → has ns (get_or ns i d) ≡ true
 has-get_or ns i d h = list_any_at (λ m. m == get_or ns i d) ns i d h (eq-eqb (get_or ns i d) (get_or ns i d) refl)
-
--- the front, and the rest, of a list of which all holds
-pub All-front : (P : ℕ → Type 0) (ms ns : List ℕ) → All P (ms ++ ns) → All P ms
-All-front P [] ns all = All-nil P
-All-front P (m ∷ ms) ns all = All-cons P m ms (All-head P m (ms ++ ns) all) (All-front P ms ns (All-tail P m (ms ++ ns) all))
-
-pub All-back : (P : ℕ → Type 0) (ms ns : List ℕ) → All P (ms ++ ns) → All P ns
-All-back P [] ns all = all
-All-back P (m ∷ ms) ns all = All-back P ms ns (All-tail P m (ms ++ ns) all)

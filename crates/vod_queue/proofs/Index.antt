@@ -64,12 +64,6 @@ IsIndex-push test xs x signals old new i same added = record {
   exact = λ s k h. added s k (omega (arith, i.covers)) ∙ ap (λ b. b || (test s x && (length xs == k))) (i.exact s k h) ∙ sym (passes_at-push (test s) xs x k);
 }
 
-pub IsIndex-none : {A : Type 0} (test : ℕ → A → Bool) (signals : ℕ) → IsIndex test [] signals (replicate signals [])
-IsIndex-none test signals = record {
-  covers = length-replicate signals [];
-  exact = λ s k h. let at : list_at {A = ℕ} (replicate signals []) s ≡ [] = get_or-replicate signals s [] [] h in rw at refl;
-}
-
 pub IsIndex-more : {A : Type 0} (test : ℕ → A → Bool) (xs items : List A) (i : ℕ) (x : A) (signals : ℕ) (old new : List (List ℕ)) → items ≡ xs → i < length items → x ≡ get_or items i x → IsIndex test (take i xs) signals old → length new ≡ length old →
     ((s k : ℕ) → s < length old → has (list_at new s) k ≡ (has (list_at old s) k || (test s x && (i == k)))) → IsIndex test (take (i + 1) xs) signals new
 IsIndex-more test xs items i x signals old new same h is index len added =

@@ -19,4 +19,5 @@ pub mod Calm
 pub mod Clocked
 pub mod Moves
 pub mod Ends
+pub mod Registers
 pub mod Tree

@@ -29,18 +29,11 @@ rest-updates : (option : Option Bit) → drop 1 (updates_of option) ≡ []
 rest-updates None = refl
 rest-updates (Some bit) = refl
 
-first-updates : (option : Option Bit) → slice_index_or (updates_of option) 0 X ≡ unwrap_or option X
-first-updates None = refl
-first-updates (Some bit) = refl
-
 -- an update of a block that had none
 pub updates-add : (lists : List (List Bit)) (options after : List (Option Bit)) (k : ℕ) (bit : Bit) → map updates_of options ≡ lists → list_at lists k ≡ [] → after ≡ set options k (Some bit) → map updates_of after ≡ set lists k (list_at lists k ++ bit ∷ [])
 updates-add lists options after k bit same none is = rw (is, none, ← same) (map-set updates_of options k (Some bit))
 
 -- the first update of a block is taken
-pub updates-first : (lists : List (List Bit)) (options : List (Option Bit)) (k : ℕ) (bit : Bit) → map updates_of options ≡ lists → bit ≡ unwrap_or (option_at options k) X → bit ≡ slice_index_or (list_at lists k) 0 X
-updates-first lists options k bit same is = is ∙ rw (← same, list_at-updates options k) (sym (first-updates (option_at options k)))
-
 pub updates-rest : (lists : List (List Bit)) (options after : List (Option Bit)) (k : ℕ) → map updates_of options ≡ lists → after ≡ set options k None → map updates_of after ≡ set lists k (drop 1 (list_at lists k))
 updates-rest lists options after k same is = rw (is, ← same, list_at-updates options k, rest-updates (option_at options k)) (map-set updates_of options k None)
 

@@ -88,7 +88,3 @@ IsShaped-after d s Activate shaped =
 IsShaped-after d s (Perform k) shaped =
     IsShaped-put d (slice_index (assigned_registers d.blocks) k) (slice_index_or (list_at s.now k) 0 X) (record s { now = set s.now k (drop 1 (list_at s.now k)) })
     (record { val = shaped.val; moves = shaped.moves; init = shaped.init; wake = shaped.wake; pend = shaped.pend; todo = shaped.todo; later = shaped.later; now = length-set s.now k (drop 1 (list_at s.now k)) ∙ shaped.now })
-
--- a state that an event led to
-pub IsShaped-taken : (d : Netlist) (s t : State) (event : Event) → t ≡ after d s event → IsShaped d s → IsShaped d t
-IsShaped-taken d s t event taken shaped = rw taken (IsShaped-after d s event shaped)

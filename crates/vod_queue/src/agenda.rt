@@ -238,8 +238,16 @@ impl Agenda {
     {
         let old = self.val[signal as usize];
         self.val[signal as usize] = bit;
-        set_where(&mut self.wake, changed(old, bit), listeners.readers.get(signal));
-        set_where(&mut self.todo, rises(old, bit), listeners.waiters.get(signal));
+        set_where(
+            &mut self.wake,
+            changed(old, bit),
+            listeners.readers.get(signal),
+        );
+        set_where(
+            &mut self.todo,
+            rises(old, bit),
+            listeners.waiters.get(signal),
+        );
     }
 }
 

@@ -15,6 +15,8 @@ mod event;
 mod fanout;
 mod flags;
 mod orders;
+#[cfg(test)]
+mod tests;
 mod updates;
 mod waiting;
 
