@@ -1,0 +1,6 @@
+pub mod Words
+pub mod Tokens
+pub mod Syntax
+pub mod View
+pub mod Limit
+pub mod Refusal

@@ -1,0 +1,10 @@
+//! The sentences of the thin form of sources, with the place of each refusal.
+#![tactic(auto)]
+
+mod fault;
+mod syntax;
+mod words;
+
+pub use fault::SyntaxFault;
+pub use syntax::{Direction, Item, Module, Port, Sentence, Span};
+pub use words::Word;
