@@ -4,3 +4,4 @@ pub mod Syntax
 pub mod View
 pub mod Limit
 pub mod Refusal
+pub mod Scan

@@ -30,7 +30,7 @@ spelling Event = codes "@"
 spelling Nonblocking = codes "<="
 
 -- a word with these bytes, or else what comes of the others
-abbrev if_spelled : List ℕ → Word → Option Word → Option Word
+abbrev pub if_spelled : List ℕ → Word → Option Word → Option Word
 if_spelled text word others = if bytes_eq text (spelling word) then Some word else others
 
 -- the keyword or number with these bytes
@@ -48,7 +48,7 @@ symbol_of text =
     if_spelled text Event (if_spelled text Nonblocking None))))))))))
 
 -- the first of two
-abbrev or_else : Option Word → Option Word → Option Word
+abbrev pub or_else : Option Word → Option Word → Option Word
 or_else (Some word) other = Some word
 or_else None other = other
 

@@ -3,8 +3,10 @@
 
 mod fault;
 mod syntax;
+mod tokens;
 mod words;
 
 pub use fault::SyntaxFault;
 pub use syntax::{Direction, Item, Module, Port, Sentence, Span};
-pub use words::Word;
+pub use tokens::one_cut;
+pub use words::{Word, word_of};
