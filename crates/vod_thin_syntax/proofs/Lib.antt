@@ -1,2 +1,9 @@
+mod GivesLaws
+mod SteadyParts
+mod Rounds
+mod SameWords
+mod Scans
+mod StateLemmas
+mod Steady
 mod TokenLaws
 mod WordLaws

@@ -5,3 +5,5 @@ pub mod View
 pub mod Limit
 pub mod Refusal
 pub mod Scan
+pub mod Reader
+pub mod State

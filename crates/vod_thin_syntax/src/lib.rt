@@ -2,6 +2,9 @@
 #![tactic(auto)]
 
 mod fault;
+mod parts;
+mod reader;
+mod scan;
 mod syntax;
 mod tokens;
 mod words;
