@@ -3,7 +3,10 @@ mod SteadyParts
 mod Rounds
 mod SameWords
 mod Scans
+mod Sentences
 mod StateLemmas
 mod Steady
 mod TokenLaws
+mod Trees
+mod Values
 mod WordLaws

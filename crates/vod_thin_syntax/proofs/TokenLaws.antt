@@ -1,7 +1,11 @@
 -- The bytes of a source fall into tokens of the thin form in one way.
-use Rattle.std.proofs.Common.{◌≡◌, get_or, drop-cons, add-one, ℕ, ◌+◌, ◌-◌, ◌<◌, ◌≤◌, ◌⊎◌, inl, inr, List, [], ◌∷◌, ◌++◌, arith, length, take, drop, refl, sym, ◌∙◌, ap, true, false, Bool, Option, Some, None, subst, append-nil}
+use Rattle.std.proofs.Common.{◌≡◌, get_or, drop-cons, add-one, ℕ, ◌+◌, ◌-◌, ◌<◌, ◌≤◌, ◌⊎◌, inl, inr, List, [], ◌∷◌, ◌++◌, arith, length, take, drop, refl, sym, ◌∙◌, ap, true, false, Bool, Option, Some, None, subst, append-nil, length-append}
 use Rattle.std.proofs.lemmas.Grind.{common_steps}
 use Rattle.std.proofs.lemmas.List.{take-append-drop, drop-drop}
+use Rattle.std.proofs.lemmas.List.Elements.{All-nil, All-cons}
+use Rattle.std.proofs.Math.Seq.{drop-append_seam}
+use Rattle.std.specs.Prelude.{All}
+use Rattle.vod_token.specs.Span.{LiesIn}
 use Rattle.std.specs.Option.{is_some}
 use Rattle.vod_token.specs.Cut.{Holds, wrong_with, token}
 use Rattle.vod_token.specs.Form.{is_white, Form, IsSpelled, kind_of}
@@ -150,3 +154,81 @@ stop_step source at lt dark none =
 
 pub behind_token : (source : List ℕ) (at : ℕ) (t : Token) → at < t.end → drop (t.end - at) (drop at source) ≡ drop t.end source
 behind_token source at t lt = drop-drop (t.end - at) at source ∙ ap (λ k. drop k source) (let s : at + (t.end - at) ≡ t.end = omega arith in s)
+
+some_bytes : TokenLaws → (text rest : List ℕ) (form : Form) → Holds text rest form → 0 < length text
+some_bytes laws [] rest form h = absurd (laws.some rest form h)
+some_bytes laws (b ∷ bs) rest form h = omega arith
+
+-- the tokens lie in the source, and there are no more of them than bytes
+pub record Lies (source : List ℕ) (bytes : List ℕ) (ts : List Token) : Type 0 where
+  pub lie : All (LiesIn source) ts
+  pub few : length ts ≤ length bytes
+
+behind_text : (source : List ℕ) (at : ℕ) (text rest : List ℕ) → drop at source ≡ text ++ rest → drop (at + length text) source ≡ rest
+behind_text source at text rest e = sym (drop-drop (length text) at source) ∙ ap (drop (length text)) e ∙ drop-append_seam text rest
+
+pub falls_lie : TokenLaws → {at : ℕ} {bytes : List ℕ} {ts : List Token} {stop : Option ℕ} → Falls at bytes ts stop → (source : List ℕ) → drop at source ≡ bytes → at + length bytes ≡ length source → Lies source bytes ts
+falls_lie laws (ends at) source e long = record { lie = All-nil (LiesIn source); few = omega arith }
+falls_lie laws (skips at b bs ts stop white more) source e long =
+    let later = falls_lie laws more source (behind_text source at (b ∷ []) bs e) (omega arith) in
+    let few = later.few in
+    record { lie = later.lie; few = omega arith }
+falls_lie laws (takes at text rest form ts stop holds of more) source e long =
+    let sum : length (text ++ rest) ≡ length text + length rest = length-append text rest in
+    let later = falls_lie laws more source (behind_text source at text rest e) (omega arith) in
+    let few = later.few in
+    let some = some_bytes laws text rest form holds in
+    record { lie = All-cons (LiesIn source) (token at text form) ts (record { some = omega arith; within = omega arith }) later.lie; few = omega arith }
+falls_lie laws (stops at b bs dark none) source e long = record { lie = All-nil (LiesIn source); few = omega arith }
+
+-- where they stop is in the source, and no token begins behind it
+pub record Before (bytes : List ℕ) (at : ℕ) (ts : List Token) (stop : Option ℕ) : Type 0 where
+  pub inside : (place : ℕ) → stop ≡ Some place → place ≤ at + length bytes
+  pub first : (before : List Token) (t : Token) (behind : List Token) → ts ≡ before ++ t ∷ behind → t.start ≤ at + length bytes
+  pub earlier : (place : ℕ) → stop ≡ Some place → (before : List Token) (t : Token) (behind : List Token) → ts ≡ before ++ t ∷ behind → t.start ≤ place
+  pub from : (place : ℕ) → stop ≡ Some place → at ≤ place
+
+no_tokens : (before : List Token) (t : Token) (behind : List Token) → [] ≡ before ++ t ∷ behind → ⊥
+no_tokens [] t behind e = cc
+no_tokens (u ∷ before) t behind e = cc
+
+some_place : {a b : ℕ} → Some a ≡ Some b → a ≡ b
+some_place h = cc
+
+pub falls_before : {at : ℕ} {bytes : List ℕ} {ts : List Token} {stop : Option ℕ} → Falls at bytes ts stop → Before bytes at ts stop
+falls_before (ends at) = record {
+  inside = λ place e. cc; first = λ before t behind e. absurd (no_tokens before t behind e); earlier = λ place e before t behind f. cc; from = λ place e. cc;
+}
+falls_before (skips at b bs ts stop white more) =
+    let later = falls_before more in
+    record {
+      inside = λ place e. (let le = later.inside place e in omega arith);
+      first = λ before t behind e. (let le = later.first before t behind e in omega arith);
+      earlier = later.earlier;
+      from = λ place e. (let le = later.from place e in omega arith);
+    }
+falls_before (takes at text rest form ts stop holds of more) =
+    let later = falls_before more in
+    let sum : length (text ++ rest) ≡ length text + length rest = length-append text rest in
+    record {
+      inside = λ place e. (let le = later.inside place e in omega arith);
+      first = λ before t behind e. by_first at text rest form ts before t behind later.first (omega arith) sum e;
+      earlier = λ place e before t behind f. (let le = later.from place e in by_earlier at text form ts place before t behind (later.earlier place e) (omega arith) f);
+      from = λ place e. (let le = later.from place e in omega arith);
+    }
+  where
+    by_first : (at : ℕ) (text rest : List ℕ) (form : Form) (ts before : List Token) (t : Token) (behind : List Token)
+        → ((before : List Token) (t : Token) (behind : List Token) → ts ≡ before ++ t ∷ behind → t.start ≤ at + length text + length rest)
+        → at ≤ at + length (text ++ rest) → length (text ++ rest) ≡ length text + length rest → token at text form ∷ ts ≡ before ++ t ∷ behind → t.start ≤ at + length (text ++ rest)
+    by_first at text rest form ts [] t behind later low sum e = let same : token at text form ≡ t = cc in let start : at ≡ t.start = ap (λ u. u.start) same in omega arith
+    by_first at text rest form ts (u ∷ before) t behind later low sum e = let same : ts ≡ before ++ t ∷ behind = cc in let le = later before t behind same in omega arith
+
+    by_earlier : (at : ℕ) (text : List ℕ) (form : Form) (ts : List Token) (place : ℕ) (before : List Token) (t : Token) (behind : List Token)
+        → ((before : List Token) (t : Token) (behind : List Token) → ts ≡ before ++ t ∷ behind → t.start ≤ place)
+        → at ≤ place → token at text form ∷ ts ≡ before ++ t ∷ behind → t.start ≤ place
+    by_earlier at text form ts place [] t behind later low e = let same : token at text form ≡ t = cc in let start : at ≡ t.start = ap (λ u. u.start) same in omega arith
+    by_earlier at text form ts place (u ∷ before) t behind later low e = let same : ts ≡ before ++ t ∷ behind = cc in later before t behind same
+falls_before (stops at b bs dark none) = record {
+  inside = λ place e. (let same = some_place e in omega arith); first = λ before t behind e. absurd (no_tokens before t behind e);
+  earlier = λ place e before t behind f. absurd (no_tokens before t behind f); from = λ place e. (let same = some_place e in omega arith);
+}

@@ -29,15 +29,16 @@ abbrev pub first_long : List Token → Option ℕ
 first_long [] = None
 first_long (t ∷ ts) = if is_long t then Some t.start else first_long ts
 
--- the places of the tokens that stand directly behind a word: the names of all inputs, outputs, wires or registers
-abbrev pub behind : List ℕ → List ℕ → List Token → List ℕ
-behind source word [] = []
-behind source word (t ∷ []) = []
-behind source word (t ∷ next ∷ ts) = if bytes_eq (slice_of source t) word then next.start ∷ behind source word (next ∷ ts) else behind source word (next ∷ ts)
+-- the places of the tokens that stand directly behind a word, where it stands before the first of them or doesn't: the
+-- names of all inputs, outputs, wires or registers
+abbrev pub behind : Bool → List ℕ → List ℕ → List Token → List ℕ
+behind there source word [] = []
+behind true source word (t ∷ ts) = t.start ∷ behind (bytes_eq (slice_of source t) word) source word ts
+behind false source word (t ∷ ts) = behind (bytes_eq (slice_of source t) word) source word ts
 
 -- where the 257th of them begins
 abbrev pub crowded : List ℕ → List ℕ → List Token → Option ℕ
-crowded source word ts = slice_get (behind source word ts) 256
+crowded source word ts = slice_get (behind false source word ts) 256
 
 -- where the first token begins that is past a limit: a name of more than 1,024 bytes, the name of a 257th input, output,
 -- wire or register, or the nesting 65

@@ -1,5 +1,6 @@
 //! The tokens of a source.
-ghost use Rattle.std.specs.Prelude.{◌≡◌, ◌<◌, ◌≤◌, ◌+◌, ◌^◌, ℕ, List, Option, drop, length, IfOk, IfSome, IfNone};
+ghost use Rattle.std.specs.Prelude.{◌≡◌, ◌<◌, ◌≤◌, ◌+◌, ◌^◌, ℕ, List, Option, drop, length, All, IfOk, IfSome, IfNone};
+ghost use Rattle.vod_token.specs.Span.{LiesIn};
 ghost use Rattle.vod_token.specs.declared.Token.{Token};
 ghost use Rattle.vod_thin_syntax.specs.Tokens.{Falls, HoldsNone};
 ghost use Rattle.vod_thin_syntax.specs.Scan.{is_of_form, Continues};
@@ -17,6 +18,18 @@ pub(crate) struct Tokens {
 
 /// Cuts a source of at most 1,048,576 bytes into its tokens.
 pub(crate) fn read_tokens(alloc: Global, source: &[u8]) -> Result<Tokens, AllocError>
+    requires { length source.now ≤ 2 ^ 20 }
+    ensures falls { IfOk result (λ tokens. Falls 0 source.now tokens.list.items tokens.stop) }
+    ensures lie { IfOk result (λ tokens. All (LiesIn source.now) tokens.list.items) }
+    ensures few { IfOk result (λ tokens. length tokens.list.items ≤ 2 ^ 20) }
+{
+    one_token();
+    let cut = cut(alloc, source)?;
+    Ok(cut)
+}
+
+// Cuts a source into its tokens.
+fn cut(alloc: Global, source: &[u8]) -> Result<Tokens, AllocError>
     requires { length source.now ≤ 2 ^ 20 }
     ensures { IfOk result (λ tokens. Falls 0 source.now tokens.list.items tokens.stop) }
 {

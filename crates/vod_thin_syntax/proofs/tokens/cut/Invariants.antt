@@ -1,7 +1,7 @@
 use Rattle.std.proofs.Common.{◌-◌, ◌≤◌, ◌++◌, ℕ, List, Option, length, drop}
 use Rattle.vod_token.specs.declared.Token.{Token}
 use Rattle.vod_thin_syntax.specs.Tokens.{Falls}
-use Rattle.vod_thin_syntax.proofs.tokens.read_tokens.Given as goal
+use Rattle.vod_thin_syntax.proofs.tokens.cut.Given as goal
 
 -- what the rest falls into, the source falls into behind the tokens so far
 abbrev pub invariant-loop-at : goal.invariant-loop-at
