@@ -4,6 +4,7 @@
 mod fault;
 mod limit;
 mod parts;
+mod read;
 mod reader;
 mod scan;
 mod syntax;
@@ -11,6 +12,7 @@ mod tokens;
 mod words;
 
 pub use fault::SyntaxFault;
+pub use read::{one_sentence, read_sentence};
 pub use syntax::{Direction, Item, Module, Port, Sentence, Span};
 pub use tokens::one_cut;
 pub use words::{Word, word_of};
