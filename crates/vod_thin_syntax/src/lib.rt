@@ -8,6 +8,8 @@ mod read;
 mod reader;
 mod scan;
 mod syntax;
+#[cfg(test)]
+mod tests;
 mod tokens;
 mod words;
 
