@@ -6,5 +6,6 @@ pub mod Limit
 pub mod Refusal
 pub mod Scan
 pub mod Reader
+pub mod Lies
 pub mod Outcome
 pub mod State
