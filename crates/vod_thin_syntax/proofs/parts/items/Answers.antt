@@ -1,4 +1,4 @@
-use Rattle.std.proofs.Common.{◌≡◌, ◌<◌, ◌++◌, [], ◌∷◌, List, map, length, sym, ◌∙◌, ap, subst, arith, true, false}
+use Rattle.std.proofs.Common.{◌≡◌, ◌++◌, [], ◌∷◌, List, map, sym, ◌∙◌, ap, subst}
 use Rattle.std.proofs.lemmas.List.{map_push}
 use Rattle.std.proofs.lemmas.Result.{err_from_is_err_and}
 use Rattle.std.specs.Prelude.{All}
@@ -7,7 +7,7 @@ use Rattle.vod_thin_syntax.specs.Lies.{ItemLies}
 use Rattle.vod_thin_syntax.proofs.GivesLaws.{refusal_gives}
 use Rattle.vod_thin_syntax.proofs.Rounds.{many_stop, many_refused, many_more}
 use Rattle.vod_thin_syntax.proofs.SteadyParts.{item_shrinks}
-use Rattle.vod_thin_syntax.specs.Reader.{Got, Refused, is_next, item_read, items_read}
+use Rattle.vod_thin_syntax.specs.Reader.{Got, item_read, items_read}
 use Rattle.vod_thin_syntax.specs.State.{left}
 use Rattle.vod_thin_syntax.specs.Syntax.{Item, Mark}
 use Rattle.vod_thin_syntax.specs.View.{item_of}

@@ -1,4 +1,4 @@
-use Rattle.std.proofs.Common.{◌≡◌, ◌++◌, [], ◌∷◌, List, map, sym, ◌∙◌, ap, subst, true, false}
+use Rattle.std.proofs.Common.{◌≡◌, ◌++◌, [], ◌∷◌, List, map, sym, ◌∙◌, ap, subst}
 use Rattle.std.proofs.lemmas.List.{map_push}
 use Rattle.std.proofs.lemmas.Result.{err_from_is_err_and}
 use Rattle.std.specs.Prelude.{All}
@@ -7,7 +7,7 @@ use Rattle.vod_thin_syntax.specs.Lies.{PortLies}
 use Rattle.vod_thin_syntax.proofs.GivesLaws.{refusal_gives}
 use Rattle.vod_thin_syntax.proofs.Rounds.{many_stop, many_refused, many_more}
 use Rattle.vod_thin_syntax.proofs.SteadyParts.{next_port_shrinks}
-use Rattle.vod_thin_syntax.specs.Reader.{Got, Refused, is_next, next_port_read, more_ports}
+use Rattle.vod_thin_syntax.specs.Reader.{Got, next_port_read, more_ports}
 use Rattle.vod_thin_syntax.specs.State.{left}
 use Rattle.vod_thin_syntax.specs.Syntax.{Port, Mark}
 use Rattle.vod_thin_syntax.specs.View.{port_of}

@@ -1,10 +1,8 @@
-use Rattle.std.proofs.Common.{◌≡◌, ◌<◌, ◌≤◌, List, [], ◌∷◌, length, drop, sym, ◌∙◌, ap, subst, arith}
-use Rattle.std.proofs.lemmas.Grind.{common_steps}
+use Rattle.std.proofs.Common.{drop, sym, ◌∙◌, ap, subst}
 use Rattle.vod_thin_syntax.proofs.GivesLaws.{refused_gives}
 use Rattle.vod_thin_syntax.proofs.Breaking.{read_sentence, refused_broken, longer_broken, some_marks, no_marks}
 use Rattle.vod_thin_syntax.specs.Outcome.{Broken}
 use Rattle.vod_thin_syntax.specs.Reader.{Got, module_read}
-use Rattle.vod_thin_syntax.specs.Syntax.{Mark}
 use Rattle.vod_thin_syntax.specs.View.{marks_of, module_of}
 use Rattle.vod_thin_syntax.proofs.read.sentence_module.Goals as goal
 
