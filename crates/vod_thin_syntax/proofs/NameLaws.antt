@@ -1,5 +1,5 @@
 -- The names of a sentence are identifiers.
-use Rattle.std.proofs.Common.{◌≡◌, ℕ, ◌+◌, ◌-◌, ◌<◌, ◌≤◌, ◌⊎◌, inl, inr, List, [], ◌∷◌, ◌++◌, arith, length, take, drop, map, refl, sym, ◌∙◌, ap, cond, true, false, ◌&&◌, Bool, Option, Some, None, subst, length-append}
+use Rattle.std.proofs.Common.{◌≡◌, ℕ, ◌+◌, ◌-◌, ◌≤◌, inl, inr, List, [], ◌∷◌, ◌++◌, arith, length, take, drop, map, refl, sym, ◌∙◌, ap, cond, true, false, ◌&&◌, Bool, Option, Some, None, subst}
 use Rattle.std.proofs.Math.Seq.{take-append_seam, drop-append_seam}
 use Rattle.std.proofs.lemmas.Bool.Decides.{nat_tests}
 use Rattle.std.proofs.lemmas.List.{drop-drop}
@@ -9,13 +9,12 @@ use Rattle.std.specs.Prelude.{All, nat_lt}
 use Rattle.vod_token.specs.Cut.{token}
 use Rattle.vod_token.specs.Form.{IsWord, IsSpelled, Form, kind_of}
 use Rattle.vod_token.specs.Form.Form.{Word, Plain, Based, Directive, Symbol}
-use Rattle.vod_token.specs.Nesting.{slice_of, deep_at}
+use Rattle.vod_token.specs.Nesting.{slice_of}
 use Rattle.vod_token.specs.Word.{is_reserved}
 use Rattle.vod_token.specs.declared.Token.{Token}
-use Rattle.vod_token.specs.declared.TokenKind.{TokenKind}
 use Rattle.vod_token.specs.declared.TokenKind.TheVariants as kinds
 use Rattle.vod_thin_syntax.proofs.WordLaws.{spelled_word}
-use Rattle.vod_thin_syntax.specs.Limit.{sooner, is_name, is_long, first_long, crowded, limit_of}
+use Rattle.vod_thin_syntax.specs.Limit.{sooner, is_name, is_long, first_long, limit_of}
 use Rattle.vod_thin_syntax.specs.Names.{value_names, item_names, names_of, IsIdentifier, IsShort}
 use Rattle.vod_thin_syntax.specs.Refusal.{Reads}
 use Rattle.vod_thin_syntax.specs.Syntax as tree
@@ -23,7 +22,7 @@ use Rattle.vod_thin_syntax.specs.Syntax.{Name, Mark, Named, Fixed, Value, Item, 
 use Rattle.vod_thin_syntax.specs.Tokens.{IsOfForm, Falls}
 use Rattle.vod_thin_syntax.specs.Tokens.Falls.{ends, skips, takes, stops}
 use Rattle.vod_thin_syntax.specs.View.{name_of, mark_by, mark_of, marks_of}
-use Rattle.vod_thin_syntax.specs.Words.{spelling, word_of}
+use Rattle.vod_thin_syntax.specs.Words.{word_of}
 use Rattle.vod_thin_syntax.specs.declared.words.Word as w
 use Rattle.vod_thin_syntax.specs.declared.words.Word.TheVariants as word
 
