@@ -22,7 +22,7 @@ use Rattle.vod_token.specs.Form.Form.{Word, Plain, Based, Directive, Symbol}
 use Rattle.vod_token.specs.Scan.{layout_len, lexeme, number_at, word_lexeme, directive_lexeme, symbol_lexeme, directive_at, symbol_len, size_len}
 
 -- Which kind of token a first byte begins.
-lexeme_word : (b : ℕ) (bs : List ℕ) → is_letter b ≡ true → lexeme (b ∷ bs) ≡ word_lexeme (b ∷ bs)
+pub lexeme_word : (b : ℕ) (bs : List ℕ) → is_letter b ≡ true → lexeme (b ∷ bs) ≡ word_lexeme (b ∷ bs)
 unfolding lexeme
 lexeme_word b bs w = rw w refl
 
@@ -337,7 +337,7 @@ letter_dark b h = (grind (arith, nat_tests), grind (arith, nat_tests))
 number_dark : (b : ℕ) → starts_number b ≡ true → (is_white b ≡ false) × ((b == 47) ≡ false)
 number_dark b h = (grind (arith, nat_tests), grind (arith, nat_tests))
 
-dark_head : (text : List ℕ) (form : Form) → IsSpelled text form → (is_white (get_or text 0 0) ≡ false) × ((get_or text 0 0 == 47) ≡ false)
+pub dark_head : (text : List ℕ) (form : Form) → IsSpelled text form → (is_white (get_or text 0 0) ≡ false) × ((get_or text 0 0 == 47) ≡ false)
 dark_head text Word h = letter_dark (get_or text 0 0) (class_word text h).letter_is
 dark_head text (Plain v) h = number_dark (get_or text 0 0) (class_plain text h.0).number_is
 dark_head text (Based s m v) h = number_dark (get_or text 0 0) (class_based text h.0 h.1 h.2).number_is

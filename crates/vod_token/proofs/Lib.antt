@@ -1,6 +1,7 @@
 pub mod Based
 pub mod Cuts
 pub mod Directives
+pub mod Fronts
 pub mod Layouts
 pub mod Lexemes
 pub mod Lists

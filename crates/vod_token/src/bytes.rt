@@ -16,8 +16,8 @@ pub(crate) enum Class {
     Line,
 }
 
-// White space: space, tab, line feed, form feed and carriage return.
-pub(crate) fn is_white(byte: u8) -> bool
+/// Whether a byte is white space: space, tab, line feed, form feed or carriage return (3.2).
+pub fn is_white(byte: u8) -> bool
     ensures { result ≡ is_white byte }
 {
     matches!(byte, b' ' | b'\t' | b'\n' | 12 | b'\r')

@@ -15,7 +15,10 @@ mod symbol;
 #[cfg(test)]
 mod tests;
 
+pub use bytes::is_white;
 pub use cut::{one_form, one_reading, tokens};
+pub use lexeme::{longest_token, one_token};
+pub use nesting::first_too_deep;
 use std::alloc::{AllocError, AllocFailed};
 
 /// A stretch of the source that is one token: `source[start..end]`.

@@ -1,6 +1,6 @@
 //! The nesting of brackets and operators.
 
-ghost use Rattle.std.specs.Prelude.{◌≡◌, ◌+◌, ◌^◌, ◌<◌, ◌≤◌, ◌∷◌, [], codes, length, reverse, sum, None, IfErr, OnOk, All};
+ghost use Rattle.std.specs.Prelude.{◌≡◌, ◌+◌, ◌^◌, ◌<◌, ◌≤◌, ◌∷◌, [], codes, length, reverse, sum, None, IfErr, IfOk, OnOk, All};
 ghost use Rattle.vod_token.specs.Word.{is_among};
 ghost use Rattle.vod_token.specs.Nesting.{symbol_effect, effect_of, changed, nesting, deep_at};
 ghost use Rattle.vod_token.specs.Fault.{IsNestingFault};
@@ -32,16 +32,31 @@ pub(crate) fn check_nesting(alloc: Global, source: &[u8], tokens: &[Token]) -> R
     ensures ok { OnOk result (deep_at source.now tokens.now ≡ None) }
     ensures err { IfErr result (IsNestingFault source.now tokens.now) }
 {
+    match first_too_deep(alloc, source, tokens)? {
+        Some(place) => Err(LexFault::Nesting(place)),
+        None => Ok(()),
+    }
+}
+
+/// Where the first token begins that takes the nesting past `NESTING`. The tokens' spans lie in the source.
+pub fn first_too_deep(
+    alloc: Global,
+    source: &[u8],
+    tokens: &[Token],
+) -> Result<Option<u32>, AllocError>
+    requires { All (LiesIn source.now) tokens.now }
+    ensures { IfOk result (λ place. place ≡ deep_at source.now tokens.now) }
+{
     let mut last = 0;
     let mut outer = Vec::new(alloc);
     for token in tokens {
         let text = &source[token.start as usize..token.end as usize];
         change(&mut last, &mut outer, effect_of(token.kind, text))?;
         if nesting(last, &outer) > NESTING {
-            return Err(LexFault::Nesting(token.start));
+            return Ok(Some(token.start));
         }
     }
-    Ok(())
+    Ok(None)
 }
 
 // The last count and the outer ones behind a token.

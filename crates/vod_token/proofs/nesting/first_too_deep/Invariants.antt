@@ -2,7 +2,7 @@ use Rattle.std.proofs.Common.{◌≡◌, ◌≤◌, ◌∷◌, drop}
 use Rattle.std.specs.Prelude.{reverse}
 use Rattle.vod_token.specs.Nesting.{nesting, too_deep, deep_at}
 use Rattle.vod_token.specs.declared.TheConstants.{NESTING}
-use Rattle.vod_token.proofs.nesting.check_nesting.Given as goal
+use Rattle.vod_token.proofs.nesting.first_too_deep.Given as goal
 
 -- the nesting is within the limit so far, and what is too deep is among the tokens that are left
 abbrev pub invariant-loop-token : goal.invariant-loop-token

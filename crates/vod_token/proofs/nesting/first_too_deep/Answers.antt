@@ -5,7 +5,7 @@ use Rattle.vod_token.specs.Nesting.{nesting}
 use Rattle.vod_token.specs.declared.Token.{Token}
 use Rattle.vod_token.specs.declared.TokenKind.TheVariants.{Name}
 use Rattle.vod_token.specs.declared.TheConstants.{NESTING}
-use Rattle.vod_token.proofs.nesting.check_nesting.Goals as goal
+use Rattle.vod_token.proofs.nesting.first_too_deep.Goals as goal
 
 none : Token
 none = record { kind = Name; start = 0; end = 0 }
@@ -28,7 +28,7 @@ returns-then-nesting-gt-NESTING c =
     let items = ap (λ xs. nesting (c.change.new.last ∷ reverse xs)) c.deref.ensures.value in
     let deep = deep_here c.args.source.now c.loop-token.last (reverse c.loop-token.outer.items) c.args.tokens.now c.loop-token.token-index none c.effect_of.result
     (c.change.new.last ∷ reverse c.change.new.outer.items) c.loop-token-test.true c.effect_of.ensures c.in_ok-change.ensures (let over = c.if-nesting-gt-NESTING.true in let is = c.nesting.ensures in omega arith) in
-    record { ok = tt; err = sym c.loop-token.invariant.left ∙ deep }
+    sym (sym c.loop-token.invariant.left ∙ deep)
 
 pub loop-token-preserved : goal.loop-token-preserved
 unfolding none
@@ -42,8 +42,4 @@ loop-token-preserved c =
     }
 
 pub returns : goal.returns
-returns c =
-    record {
-      ok = sym c.loop-token.invariant.left ∙ deep_none c.args.source.now (c.loop-token.last ∷ reverse c.loop-token.outer.items) c.args.tokens.now c.loop-token.token-index c.loop-token-test.false;
-      err = tt;
-    }
+returns c = sym (sym c.loop-token.invariant.left ∙ deep_none c.args.source.now (c.loop-token.last ∷ reverse c.loop-token.outer.items) c.args.tokens.now c.loop-token.token-index c.loop-token-test.false)

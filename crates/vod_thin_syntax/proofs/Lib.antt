@@ -1,0 +1,14 @@
+mod Breaking
+mod GivesLaws
+mod NameLaws
+mod SteadyParts
+mod Rounds
+mod SameWords
+mod Scans
+mod Sentences
+mod StateLemmas
+mod Steady
+mod TokenLaws
+mod Trees
+mod Values
+mod WordLaws

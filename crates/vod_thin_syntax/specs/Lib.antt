@@ -1,0 +1,12 @@
+pub mod Words
+pub mod Tokens
+pub mod Syntax
+pub mod View
+pub mod Limit
+pub mod Refusal
+pub mod Scan
+pub mod Reader
+pub mod Names
+pub mod Lies
+pub mod Outcome
+pub mod State
