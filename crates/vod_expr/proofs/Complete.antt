@@ -16,7 +16,7 @@ use Rattle.vod_expr.specs.declared.machine.Frame.TheVariants.{Prefix, Left, Chos
 use Rattle.vod_expr.specs.declared.machine.Head.{Head}
 use Rattle.vod_expr.specs.declared.machine.Head.TheVariants.{Wanted, Bare, Named, Whole, Outer}
 use Rattle.vod_expr.specs.Operators.{unary_text, binary_text, tight}
-use Rattle.vod_expr.specs.Grammar.{Lexeme, IsSymbol, IsName, ident_of, IsNumber, plain, based, at, IsExpr, AreExprs, number, name, index, range, call, paren, concat, replicate, prefixed, joined, choice, one, more}
+use Rattle.vod_expr.specs.Grammar.{Lexeme, IsSymbol, IsName, ident_of, IsNumber, at, IsExpr, AreExprs, number, name, index, range, call, paren, concat, replicate, prefixed, joined, choice, one, more}
 use Rattle.vod_expr.specs.Machine.{mark_text, mark_of, unary_of, binary_of, Machine, machine, Reduced, reduced, reduce, whole, at_close_paren, at_close_bracket, at_comma, at_colon, at_open_brace, at_close_brace, chosen, joined_with, at_part, level_at, behind, followed, preceded, opened, named, outer, on_mark, on_operator, on_operand, on_symbol, on_kind, step, run, tree}
 use Rattle.vod_expr.proofs.Words.{mark_spelled, unary_unmarked, unary_spelled, binary_unmarked, binary_spelled, tight_some, tight_within}
 
@@ -125,8 +125,7 @@ pub stepped : (value : Lexeme → Number) (s u : Machine) (t : Lexeme) (rest : L
 stepped value s u t rest h = ap (option_and_then (λ v. run value v rest)) h
 
 is_number : (t : Lexeme) (n : Number) → IsNumber t n → t.kind ≡ kinds.Number
-is_number _ _ (plain t value kind spelled) = kind
-is_number _ _ (based t size signed value kind spelled) = kind
+is_number t n isn = isn.0
 
 operand_step : (h g : Head) (fs : List Frame) (k : ℕ) → Opens h k → on_operand h fs g ≡ Some (machine g fs)
 unfolding on_operand

@@ -1,10 +1,9 @@
 pub mod Words
-pub mod Numerals
 pub mod Complete
 pub mod Unique
 pub mod Sound
 pub mod States
 pub mod Viable
+pub mod Numerals
 pub mod Longest
 pub mod Reducing
-pub mod Sureness

@@ -1,39 +1,42 @@
 -- The number of a token is the one that it stands for.
-use Rattle.std.proofs.Common.{◌≡◌, ℕ, suc, ◌<◌, ◌≤◌, ◌+◌, ◌%◌, ◌^◌, Bool, true, List, [], ◌∷◌, ◌++◌, length, Option, None, Some, refl, ap, sym, subst, ◌∙◌, append-nil, codes, arith}
-use Rattle.std.proofs.lemmas.Grind.{common_steps}
-use Rattle.vod_text.specs.Numeral.{IsBased, based_value}
-use Rattle.vod_token.specs.Cut.{BeginsBase}
-use Rattle.vod_token.specs.Form.{Form, Parts, AreParts, text_of, size_of, has_sign, base_of, IsSpelled}
-use Rattle.vod_token.specs.Form.Form.{Plain, Based}
-use Rattle.vod_token.specs.Scan.{number_at, size_len}
-use Rattle.vod_token.proofs.Based.{based_exact, plain_complete, plain_size}
-use Rattle.vod_token.proofs.Numbers.{based_len-le}
+use Rattle.std.proofs.Common.{◌≡◌, ℕ, ◌%◌, ◌^◌, Bool, true, false, cond, List, refl, ap, sym, subst, ◌∙◌}
+use Rattle.vod_token.specs.Form.{Form, IsSpelled, kind_of}
+use Rattle.vod_token.specs.Form.Form.{Word, Plain, Based, Directive, Symbol}
+use Rattle.vod_token.specs.Literal.{literal, StandsFor, literal_of}
+use Rattle.vod_token.specs.Span.{IsTokenText}
+use Rattle.vod_token.specs.Word.{is_reserved}
+use Rattle.vod_token.specs.declared.TokenKind.{TokenKind}
+use Rattle.vod_token.specs.declared.TokenKind.TheVariants as kinds
+use Rattle.vod_token.specs.declared.value.Literal.{Literal}
 use Rattle.vod_tree.specs.declared.ident.Number.{Number}
-use Rattle.vod_expr.specs.Grammar.{Lexeme, IsNumber, plain, based}
-use Rattle.vod_expr.specs.Numerals.{sized, formed, numbered, number_of}
+use Rattle.vod_expr.specs.Grammar.{Lexeme, IsNumber, number_from}
+use Rattle.vod_expr.specs.Numerals.{number_of}
+use Rattle.vod_expr.proofs.Complete.{Knows}
+use Rattle.vod_expr.proofs.States.{Sure}
 
-nothing_begins : BeginsBase [] → ⊥
-nothing_begins b = go b.0 b.1 b.3
-  where
-    go : (gap after : List ℕ) → [] ≡ gap ++ (codes "'" ++ after) → ⊥
-    go [] after h = cc
-    go (g ∷ gap) after h = cc
+-- what is known of texts that stand for numbers
+abbrev pub OneLiteral : Type 0
+OneLiteral = (text : List ℕ) (n : Literal) → StandsFor text n → literal_of text ≡ n
 
-plain_read : (text : List ℕ) → IsBased 10 text → number_at text ≡ Some (Plain (based_value 10 text), length text)
-plain_read text h =
-    let low = plain_size text [] h in
-    let high = based_len-le 10 (text ++ []) in
-    let same : length (text ++ []) ≡ length text = ap length (append-nil text) in
-    let size : size_len (text ++ []) ≡ length text = omega arith in
-    ap number_at (sym (append-nil text)) ∙ plain_complete text [] h size nothing_begins
-
-pub knows : (t : Lexeme) (n : Number) → IsNumber t n → number_of t ≡ n
+pub knows : OneLiteral → Knows number_of
 unfolding number_of
-knows _ _ (plain t value kind spelled) =
-    ap (numbered t.place) (plain_read t.text spelled.0) ∙ ap (sized t.place 32 true) (sym spelled.1)
-knows _ _ (based t size signed value kind spelled) =
-    let p = spelled.0 in
-    ap (numbered t.place) (ap number_at spelled.2 ∙ based_exact p spelled.1)
-    ∙ ap (λ s. sized t.place s (has_sign p.sign) (based_value (base_of p.letter) p.digits % (2 ^ s))) (sym spelled.3)
-    ∙ ap (λ s. sized t.place size s (based_value (base_of p.letter) p.digits % (2 ^ size))) (sym spelled.4)
-    ∙ ap (λ v. sized t.place size signed (v % (2 ^ size))) (sym spelled.5)
+knows one t n isn = ap (number_from t.place) (one t.text isn.1.0 isn.1.1) ∙ sym isn.1.2
+
+own : OneLiteral → (t : Lexeme) → t.kind ≡ kinds.Number → (n : Literal) → StandsFor t.text n → IsNumber t (number_of t)
+own one t kind n stands =
+    let isn : IsNumber t (number_from t.place n) = (kind, (n, stands, refl)) in
+    subst (IsNumber t) (sym (knows one t (number_from t.place n) isn)) isn
+
+word_is_none : (b : Bool) → kinds.Number ≡ cond b kinds.Reserved kinds.Name → ⊥
+word_is_none true h = cc
+word_is_none false h = cc
+
+by_form : OneLiteral → (t : Lexeme) → t.kind ≡ kinds.Number → (form : Form) → IsSpelled t.text form → t.kind ≡ kind_of t.text form → IsNumber t (number_of t)
+by_form one t k Word spelled is = absurd (word_is_none (is_reserved t.text) (sym k ∙ is))
+by_form one t k (Plain value) spelled is = own one t k (literal 32 true value) (Plain value, spelled, refl)
+by_form one t k (Based size signed value) spelled is = own one t k (literal size signed (value % (2 ^ size))) (Based size signed value, spelled, refl)
+by_form one t k Directive spelled is = let clash : kinds.Number ≡ kinds.Directive = sym k ∙ is in cc
+by_form one t k Symbol spelled is = let clash : kinds.Number ≡ kinds.Symbol = sym k ∙ is in cc
+
+pub sure : OneLiteral → (t : Lexeme) → IsTokenText t.text t.kind → Sure number_of t
+sure one t is = λ k. by_form one t k is.form is.spelled is.is

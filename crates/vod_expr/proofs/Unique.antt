@@ -16,7 +16,7 @@ use Rattle.vod_expr.specs.declared.machine.Frame.TheVariants.{Prefix, Left, Chos
 use Rattle.vod_expr.specs.declared.machine.Head.{Head}
 use Rattle.vod_expr.specs.declared.machine.Head.TheVariants.{Wanted, Bare, Named, Whole, Outer}
 use Rattle.vod_expr.specs.Operators.{unary_text, binary_text, tight}
-use Rattle.vod_expr.specs.Grammar.{Lexeme, IsSymbol, IsName, ident_of, IsNumber, plain, based, at, IsExpr, AreExprs, number, name, index}
+use Rattle.vod_expr.specs.Grammar.{Lexeme, IsSymbol, IsName, ident_of, IsNumber, at, IsExpr, AreExprs, number, name, index}
 use Rattle.vod_expr.specs.Machine.{mark_text, mark_of, unary_of, binary_of, Machine, machine, Reduced, reduced, reduce, whole, at_close_paren, at_close_bracket, at_comma, at_colon, at_open_brace, at_close_brace, chosen, joined_with, at_part, level_at, behind, followed, preceded, opened, named, outer, on_mark, on_operator, on_operand, on_symbol, on_kind, step, run, tree}
 use Rattle.vod_expr.proofs.Words.{mark_spelled, unary_unmarked, unary_spelled, binary_unmarked, binary_spelled, tight_some, tight_within}
 use Rattle.vod_expr.specs.Grammar.{Begins}

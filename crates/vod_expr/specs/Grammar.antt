@@ -1,11 +1,11 @@
 -- The expressions of the grammar: which tokens are which tree.
-use Rattle.std.specs.Prelude.{◌≡◌, ℕ, suc, ◌%◌, ◌^◌, ◌≤◌, Bool, true, List, [], ◌∷◌, ◌++◌, length, take, map, codes}
-use Rattle.vod_token.specs.Form.{Form, IsSpelled}
-use Rattle.vod_token.specs.Form.Form.{Plain, Based}
+use Rattle.std.specs.Prelude.{◌≡◌, ℕ, suc, ◌≤◌, List, [], ◌∷◌, ◌++◌, length, take, map, codes}
+use Rattle.vod_token.specs.Literal.{StandsFor}
 use Rattle.vod_token.specs.Nesting.{slice_of}
 use Rattle.vod_token.specs.declared.Token.{Token}
 use Rattle.vod_token.specs.declared.TokenKind.{TokenKind}
 use Rattle.vod_token.specs.declared.TokenKind.TheVariants as kinds
+use Rattle.vod_token.specs.declared.value.Literal.{Literal}
 use Rattle.vod_tree.specs.declared.expr.Expr.{Expr, roll-Expr}
 use Rattle.vod_tree.specs.declared.expr.ExprKind.{ExprKind}
 use Rattle.vod_tree.specs.declared.expr.ExprKind.TheVariants as e
@@ -39,13 +39,12 @@ IsName t = t.kind ≡ kinds.Name
 abbrev pub ident_of : Lexeme → Ident
 ident_of t = record { place = t.place; name = t.text }
 
--- the token is a number of this tree: a plain one has 32 bits and is signed; of a based one the bits past its size are lost (3.5.1)
-pub data IsNumber : Lexeme → Number → Type 0 where
-  plain : (t : Lexeme) (value : ℕ) → t.kind ≡ kinds.Number → IsSpelled (t.text) (Plain value)
-      → IsNumber t (record { place = t.place; size = 32; signed = true; value = value })
-  based : (t : Lexeme) (size : ℕ) (signed : Bool) (value : ℕ) → t.kind ≡ kinds.Number
-      → IsSpelled (t.text) (Based size signed value)
-      → IsNumber t (record { place = t.place; size = size; signed = signed; value = value % (2 ^ size) })
+-- the token is a number, with this tree
+abbrev pub number_from : ℕ → Literal → Number
+number_from place n = record { place = place; size = n.size; signed = n.signed; value = n.value }
+
+abbrev pub IsNumber : Lexeme → Number → Type 0
+IsNumber t n = (t.kind ≡ kinds.Number) × ((literal : Literal) × StandsFor t.text literal × (n ≡ number_from t.place literal))
 
 -- a tree at a place
 abbrev pub at : ℕ → ExprKind → Expr

@@ -1,20 +1,24 @@
-//! The numbers that tokens stand for (IEEE 1364-2005, 3.5.1).
+//! The numbers that tokens stand for.
 
-ghost use Rattle.std.specs.Prelude.{◌≡◌, ◌≤◌, ◌⊎◌, length, drop};
-ghost use Rattle.std.specs.List.{prefix_len};
-ghost use Rattle.vod_text.specs.Numeral.{based_len};
-ghost use Rattle.vod_token.specs.Form.{is_white};
+ghost use Rattle.std.specs.Prelude.{◌≡◌};
+ghost use Rattle.vod_token.specs.Span.{IsTokenText};
+ghost use Rattle.vod_expr.specs.Numerals.{number_of};
 
-use vod_text::{NumberFault, based};
+use vod_token::{TokenKind, literal_of, one_literal};
+use vod_tree::Number;
 
-// How many bytes from the front on are a digit of the base, and then digits and underscores.
-fn digits_len(bytes: &[u8], base: u8) -> usize
-    requires { (base ≡ 2) ⊎ (base ≡ 8) ⊎ (base ≡ 10) ⊎ (base ≡ 16) }
-    ensures value { result ≡ based_len base bytes.now }
-    ensures within { result ≤ length bytes.now }
+// The number of a token, at its place.
+#[tactic(auto, unfolding(crate::specs::Numerals::number_of))]
+pub(crate) fn number_of(text: &[u8], place: u32) -> Number
+    requires { IsTokenText text.now TokenKind.Number }
+    ensures { result ≡ number_of (record { kind = TokenKind.Number; text = text.now; place = place }) }
 {
-    match based(bytes, base) {
-        Err(NumberFault::Spelling { at }) => at,
-        _ => bytes.len(),
+    one_literal();
+    let literal = literal_of(text);
+    Number {
+        place,
+        size: literal.size,
+        signed: literal.signed,
+        value: literal.value,
     }
 }

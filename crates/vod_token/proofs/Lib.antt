@@ -4,6 +4,7 @@ pub mod Directives
 pub mod Layouts
 pub mod Lexemes
 pub mod Lists
+pub mod Literals
 pub mod Nestings
 pub mod Numbers
 pub mod Readings

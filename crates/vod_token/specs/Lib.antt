@@ -6,3 +6,4 @@ pub mod Scan
 pub mod Digits
 pub mod Span
 pub mod Fault
+pub mod Literal

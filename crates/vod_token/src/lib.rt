@@ -14,9 +14,11 @@ mod reserved;
 mod symbol;
 #[cfg(test)]
 mod tests;
+mod value;
 
 pub use cut::{one_form, one_reading, tokens};
 use std::alloc::{AllocError, AllocFailed};
+pub use value::{Literal, literal_of, one_literal};
 
 /// A stretch of the source that is one token: `source[start..end]`.
 #[derive(Clone, Copy, Debug, PartialEq, Eq)]
