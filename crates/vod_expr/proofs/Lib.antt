@@ -7,3 +7,4 @@ pub mod Viable
 pub mod Numerals
 pub mod Longest
 pub mod Reducing
+pub mod Taken

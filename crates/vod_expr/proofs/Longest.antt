@@ -6,6 +6,7 @@ use Rattle.vod_tree.specs.declared.expr.Expr.{Expr}
 use Rattle.vod_tree.specs.declared.ident.Number.{Number}
 use Rattle.vod_expr.specs.Grammar.{Lexeme, IsExpr, Begins, IsLongest}
 use Rattle.vod_expr.specs.Machine.{Machine, step, run, start, ended}
+use Rattle.vod_expr.specs.Reading.{Stops}
 use Rattle.vod_expr.proofs.Complete.{Knows}
 use Rattle.vod_expr.proofs.Unique.{expr_read, unread_begins_none}
 use Rattle.vod_expr.proofs.States.{Sure, run_stands, start_stands, ended_stands}
@@ -19,11 +20,6 @@ run_onto value s (t ∷ ts) us = by_step (step value s t) (λ u. run_onto value 
         → option_and_then (λ u. run value u (ts ++ us)) o ≡ option_and_then (λ v. run value v us) (option_and_then (λ u. run value u ts) o)
     by_step None goes = refl
     by_step (Some u) goes = goes u
-
--- no token goes on, as there is none or it is refused
-abbrev pub Stops : (Lexeme → Number) → Machine → List Lexeme → Type 0
-Stops value s [] = Unit {0}
-Stops value s (t ∷ ts) = step value s t ≡ None
 
 stopped : (value : Lexeme → Number) (s : Machine) (ts : List Lexeme) (k : ℕ) → Stops value s ts → suc k ≤ length ts → run value s (take (suc k) ts) ≡ None
 stopped value s [] k h le = absurd (omega arith)

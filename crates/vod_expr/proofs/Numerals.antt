@@ -40,3 +40,7 @@ by_form one t k Symbol spelled is = let clash : kinds.Number ≡ kinds.Symbol = 
 
 pub sure : OneLiteral → (t : Lexeme) → IsTokenText t.text t.kind → Sure number_of t
 sure one t is = λ k. by_form one t k is.form is.spelled is.is
+
+pub number_is : OneLiteral → (text : List ℕ) (place : ℕ) (n : Literal) → StandsFor text n → number_from place n ≡ number_of (record { kind = kinds.Number; text = text; place = place })
+unfolding number_of
+number_is one text place n stands = ap (number_from place) (sym (one text n stands))

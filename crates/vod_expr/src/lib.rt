@@ -3,9 +3,14 @@
 
 mod machine;
 mod number;
+mod read;
 #[cfg(test)]
 mod tests;
 mod word;
+
+pub use read::read_expr;
+use std::alloc::AllocError;
+use vod_token::one_literal;
 
 ghost use Rattle.std.specs.Prelude.{◌≡◌, List, ℕ};
 ghost use Rattle.vod_tree.specs.declared.expr.Expr.{Expr};
@@ -24,10 +29,22 @@ pub enum ParseFault {
     Memory,
 }
 
+impl From<AllocError> for ParseFault {
+    ghost use Rattle.vod_expr.specs.declared.ParseFault.TheVariants.{Memory};
+
+    ghost from_gives = { λ _ e. e ≡ Memory };
+
+    fn from(_: AllocError) -> ParseFault {
+        ParseFault::Memory
+    }
+}
+
 /// Tokens are an expression with one tree at most.
 pub fn one_tree()
     ensures { (ts : List Lexeme) (a b : Expr) → IsExpr 0 ts a → IsExpr 0 ts b → a ≡ b }
-{}
+{
+    one_literal();
+}
 
 /// Tokens have one longest front that begins an expression, at most.
 pub fn one_longest()

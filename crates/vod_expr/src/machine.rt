@@ -1,16 +1,20 @@
 //! Expressions read token by token: what was begun, and what was read last.
 ghost use Rattle.std.specs.Prelude.{◌≡◌, true, Some, None, ◌∷◌, ◌++◌, [], IfOk, OnOk, MatchOption};
+ghost use Rattle.vod_token.specs.Span.{IsTokenText};
 ghost use Rattle.vod_expr.specs.Grammar.{at};
+ghost use Rattle.vod_expr.specs.Numerals.{number_of};
 ghost use Rattle.vod_tree.specs.declared.expr.ExprKind.TheVariants as e;
 ghost use Rattle.vod_expr.specs.Operators.{tight};
-ghost use Rattle.vod_expr.specs.Machine.{reduce, reduced, machine, whole, opened, ended, at_close_paren, at_close_bracket, at_comma, at_colon, at_open_brace, at_close_brace, at_part, level_at, behind, followed, preceded, on_operand, named, outer, on_mark, on_operator, on_symbol, mark_of, start};
+ghost use Rattle.vod_expr.specs.Machine.{reduce, reduced, machine, whole, opened, ended, at_close_paren, at_close_bracket, at_comma, at_colon, at_open_brace, at_close_brace, at_part, level_at, behind, followed, preceded, on_operand, named, outer, on_mark, on_operator, on_symbol, mark_of, start, step};
 ghost use Rattle.vod_expr.specs.declared.machine.Head.TheVariants.{Wanted, Named, Whole, Outer};
 ghost use Rattle.vod_expr.specs.declared.machine.Frame.TheVariants.{Call, Concat, Replicate};
 ghost use Rattle.vod_expr.specs.View.{frames_of, state_of, binds, taken_place, taken_kind, Rests, Gives};
 
+use crate::number::number_of;
 use crate::word::{Mark, binary_of, mark_of, unary_of};
 use sqlite_items::{Boxed, Items};
 use std::alloc::{AllocError, Global};
+use vod_token::TokenKind;
 use vod_tree::{BinaryOp, Expr, ExprKind, Ident, Name, UnaryOp};
 
 /// A part that was begun and isn't whole.
@@ -750,5 +754,28 @@ impl Reader {
     {
         let name = Name::from_slice(alloc, text)?;
         self.operand(Head::Named(Ident { place, name }))
+    }
+
+    // A token comes, at its place.
+    #[tactic(auto, unfolding(crate::specs::Machine::on_kind))]
+    pub(crate) fn step(
+        &mut self,
+        alloc: Global,
+        kind: TokenKind,
+        text: &[u8],
+        place: u32,
+    ) -> Result<bool, AllocError>
+        requires { IsTokenText text.now kind }
+        ensures { Gives result (step number_of (state_of self.old) (record { kind = kind; text = text.now; place = place })) (ended self.old.head (frames_of self.old)) self.new }
+    {
+        match kind {
+            TokenKind::Name => self.name(alloc, text, place),
+            TokenKind::Number => {
+                let number = number_of(text, place);
+                self.operand(Head::Whole(place, ExprKind::Number(number)))
+            }
+            TokenKind::Symbol => self.symbol(alloc, text, place),
+            TokenKind::Reserved | TokenKind::Directive => Ok(false),
+        }
     }
 }
