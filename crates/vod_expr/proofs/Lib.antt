@@ -8,3 +8,4 @@ pub mod Numerals
 pub mod Longest
 pub mod Reducing
 pub mod Taken
+pub mod Ends

@@ -12,8 +12,9 @@ pub use read::read_expr;
 use std::alloc::AllocError;
 use vod_token::one_literal;
 
-ghost use Rattle.std.specs.Prelude.{◌≡◌, List, ℕ};
+ghost use Rattle.std.specs.Prelude.{◌≡◌, ◌∷◌, ◌++◌, List, ℕ, length};
 ghost use Rattle.vod_tree.specs.declared.expr.Expr.{Expr};
+ghost use Rattle.vod_expr.specs.Answer.{EndsExpr, IsRead};
 ghost use Rattle.vod_expr.specs.Grammar.{Lexeme, IsExpr, IsLongest};
 
 /// Why tokens are no expression or no source.
@@ -50,3 +51,11 @@ pub fn one_tree()
 pub fn one_longest()
     ensures { (ts : List Lexeme) (n m : ℕ) → IsLongest ts n → IsLongest ts m → n ≡ m }
 {}
+
+/// An expression is read whole before a token with which none goes on: one that is no operator between operands, nor `?`, `[`
+/// or `(`.
+pub fn read_before()
+    ensures { (ts us : List Lexeme) (t : Lexeme) (tree : Expr) → IsExpr 0 ts tree → EndsExpr t → IsRead (ts ++ t ∷ us) (length ts) tree }
+{
+    one_literal();
+}

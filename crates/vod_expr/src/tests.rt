@@ -1,6 +1,9 @@
 //! Expressions and the trees that they are read as, by hand from the grammar. A tree is shown as its parts in parentheses
 //! behind a word or the operator, each with the place of its first token; behind it stands how many tokens were read.
 
+ghost use Rattle.std.specs.Prelude.{All};
+ghost use Rattle.vod_token.specs.Span.{IsTokenOf};
+
 use crate::read_expr;
 use sqlite_items::Items;
 use std::alloc::{AllocError, Global};
@@ -192,7 +195,9 @@ fn answer(
     source: &str,
     tokens: &[Token],
     from: usize,
-) -> Result<String, AllocError> {
+) -> Result<String, AllocError>
+    requires { All (IsTokenOf source.now) tokens.now }
+{
     let mut text = String::new(alloc);
     if from > tokens.len() {
         return Ok(text);
