@@ -1,6 +1,5 @@
 -- What is an expression is read as its tree.
-use Rattle.std.proofs.Common.{◌≡◌, ℕ, suc, ◌<◌, ◌≤◌, nat_lt, Bool, true, false, cond, List, [], ◌∷◌, ◌++◌, Option, None, Some, option_and_then, refl, ap, sym, subst, ◌∙◌, append_assoc, append-nil, codes, arith}
-use Rattle.vod_token.specs.declared.TokenKind.{TokenKind}
+use Rattle.std.proofs.Common.{◌≡◌, ℕ, suc, ◌<◌, ◌≤◌, nat_lt, true, false, cond, List, [], ◌∷◌, ◌++◌, None, Some, option_and_then, refl, ap, sym, subst, ◌∙◌, append_assoc, codes, arith}
 use Rattle.vod_token.specs.declared.TokenKind.TheVariants as kinds
 use Rattle.vod_tree.specs.declared.expr.Expr.{Expr, out-Expr, out-roll-Expr}
 use Rattle.vod_tree.specs.declared.expr.ExprKind.{ExprKind}
@@ -17,7 +16,7 @@ use Rattle.vod_expr.specs.declared.machine.Head.{Head}
 use Rattle.vod_expr.specs.declared.machine.Head.TheVariants.{Wanted, Bare, Named, Whole, Outer}
 use Rattle.vod_expr.specs.Operators.{unary_text, binary_text, tight}
 use Rattle.vod_expr.specs.Grammar.{Lexeme, IsSymbol, IsName, ident_of, IsNumber, at, IsExpr, AreExprs, number, name, index, range, call, paren, concat, replicate, prefixed, joined, choice, one, more}
-use Rattle.vod_expr.specs.Machine.{mark_text, mark_of, unary_of, binary_of, Machine, machine, Reduced, reduced, reduce, whole, at_close_paren, at_close_bracket, at_comma, at_colon, at_open_brace, at_close_brace, chosen, joined_with, at_part, level_at, behind, followed, preceded, opened, named, outer, on_mark, on_operator, on_operand, on_symbol, on_kind, step, run, tree}
+use Rattle.vod_expr.specs.Machine.{mark_text, mark_of, unary_of, binary_of, Machine, machine, Reduced, reduced, reduce, chosen, joined_with, at_part, level_at, behind, followed, preceded, opened, named, on_mark, on_operator, on_operand, on_symbol, on_kind, step, run}
 use Rattle.vod_expr.proofs.Words.{mark_spelled, unary_unmarked, unary_spelled, binary_unmarked, binary_spelled, tight_some, tight_within}
 
 -- trees at a place are told apart by it

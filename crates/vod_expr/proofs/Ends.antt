@@ -1,5 +1,5 @@
 -- Behind a whole expression no token goes on but an operator between operands, `?`, `[` and `(`.
-use Rattle.std.proofs.Common.{◌≡◌, ℕ, zero, suc, ◌+◌, ◌-◌, ◌<◌, ◌≤◌, List, [], ◌∷◌, ◌++◌, length, take, drop, Option, None, Some, option_and_then, refl, ap, sym, subst, ◌∙◌, append_assoc, append-nil, length-append, codes, arith}
+use Rattle.std.proofs.Common.{◌≡◌, ℕ, zero, suc, ◌+◌, ◌-◌, ◌≤◌, List, [], ◌∷◌, ◌++◌, length, take, Option, None, Some, option_and_then, refl, ap, sym, subst, ◌∙◌, append_assoc, append-nil, length-append, codes, arith}
 use Rattle.std.proofs.Math.Seq.{take-append_seam, take-append-add}
 use Rattle.vod_token.specs.declared.TokenKind.{TokenKind}
 use Rattle.vod_token.specs.declared.TokenKind.TheVariants as kinds
@@ -15,9 +15,9 @@ use Rattle.vod_expr.specs.declared.machine.Frame.{Frame}
 use Rattle.vod_expr.specs.declared.machine.Head.{Head}
 use Rattle.vod_expr.specs.declared.machine.Head.TheVariants.{Wanted, Bare, Named, Whole, Outer}
 use Rattle.vod_expr.specs.Answer.{EndsExpr, IsRead}
-use Rattle.vod_expr.specs.Grammar.{Lexeme, IsExpr, Begins, IsLongest}
-use Rattle.vod_expr.specs.Machine.{mark_text, mark_of, binary_of, Machine, machine, reduced, reduce, at_close_paren, at_close_bracket, at_comma, at_colon, at_open_brace, at_close_brace, at_part, behind, followed, named, on_mark, on_operator, on_operand, on_symbol, on_kind, step, run, tree, start}
-use Rattle.vod_expr.proofs.Complete.{Knows, Holds, Reads, reads}
+use Rattle.vod_expr.specs.Grammar.{Lexeme, IsExpr, Begins}
+use Rattle.vod_expr.specs.Machine.{mark_text, mark_of, binary_of, machine, reduce, at_close_paren, at_close_bracket, at_comma, at_colon, at_open_brace, at_close_brace, at_part, behind, followed, named, on_mark, on_operator, on_operand, on_symbol, on_kind, run, tree, start}
+use Rattle.vod_expr.proofs.Complete.{Knows, Holds, reads}
 use Rattle.vod_expr.proofs.Unique.{run_stops, unread_begins_none}
 use Rattle.vod_expr.proofs.Words.{mark_found, binary_found}
 

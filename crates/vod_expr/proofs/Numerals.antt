@@ -5,10 +5,8 @@ use Rattle.vod_token.specs.Form.Form.{Word, Plain, Based, Directive, Symbol}
 use Rattle.vod_token.specs.Literal.{literal, StandsFor, literal_of}
 use Rattle.vod_token.specs.Span.{IsTokenText}
 use Rattle.vod_token.specs.Word.{is_reserved}
-use Rattle.vod_token.specs.declared.TokenKind.{TokenKind}
 use Rattle.vod_token.specs.declared.TokenKind.TheVariants as kinds
 use Rattle.vod_token.specs.declared.value.Literal.{Literal}
-use Rattle.vod_tree.specs.declared.ident.Number.{Number}
 use Rattle.vod_expr.specs.Grammar.{Lexeme, IsNumber, number_from}
 use Rattle.vod_expr.specs.Numerals.{number_of}
 use Rattle.vod_expr.proofs.Complete.{Knows}

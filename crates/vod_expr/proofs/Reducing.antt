@@ -1,6 +1,5 @@
 -- What a frame takes in, one frame at a time.
 use Rattle.std.proofs.Common.{◌≡◌, ℕ, nat_lt, not, Bool, true, false, cond, List, [], ◌∷◌, refl, ap, sym, ◌∙◌, arith}
-use Rattle.vod_tree.specs.declared.expr.Expr.{Expr}
 use Rattle.vod_tree.specs.declared.expr.ExprKind.{ExprKind}
 use Rattle.vod_tree.specs.declared.expr.ExprKind.TheVariants as tree_kind
 use Rattle.vod_expr.specs.declared.machine.Frame.{Frame}
@@ -8,7 +7,7 @@ use Rattle.vod_expr.specs.declared.machine.Frame.TheVariants.{Prefix, Left, Chos
 use Rattle.vod_expr.specs.declared.machine.Head.TheVariants.{Whole}
 use Rattle.vod_expr.specs.Grammar.{at}
 use Rattle.vod_expr.specs.Operators.{tight}
-use Rattle.vod_expr.specs.Machine.{Reduced, reduced, reduce, ended, alone, tree}
+use Rattle.vod_expr.specs.Machine.{reduced, reduce, ended, alone, tree}
 use Rattle.vod_expr.specs.View.{binds, taken_place, taken_kind}
 
 when_true : {A : Type 0} (b : Bool) (x y : A) → not b ≡ true → cond b x y ≡ y

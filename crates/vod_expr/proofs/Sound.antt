@@ -1,27 +1,15 @@
 -- What is read is an expression as far as it goes.
-use Rattle.std.proofs.Common.{◌≡◌, ℕ, suc, ◌<◌, ◌≤◌, nat_lt, Bool, true, false, cond, List, [], ◌∷◌, ◌++◌, Option, None, Some, option_and_then, refl, ap, sym, subst, ◌∙◌, append_assoc, append-nil, codes, arith}
-use Rattle.vod_token.specs.declared.TokenKind.{TokenKind}
-use Rattle.vod_token.specs.declared.TokenKind.TheVariants as kinds
-use Rattle.vod_tree.specs.declared.expr.Expr.{Expr, out-Expr, out-roll-Expr}
+use Rattle.std.proofs.Common.{◌≡◌, ℕ, suc, ◌≤◌, nat_lt, Bool, true, false, cond, List, [], ◌∷◌, ◌++◌, refl, subst, ◌∙◌, append_assoc, codes, arith}
+use Rattle.vod_tree.specs.declared.expr.Expr.{Expr}
 use Rattle.vod_tree.specs.declared.expr.ExprKind.{ExprKind}
 use Rattle.vod_tree.specs.declared.expr.ExprKind.TheVariants as tree_kind
 use Rattle.vod_tree.specs.declared.expr.UnaryOp.{UnaryOp}
 use Rattle.vod_tree.specs.declared.expr.BinaryOp.{BinaryOp}
-use Rattle.vod_tree.specs.declared.ident.Ident.{Ident}
-use Rattle.vod_tree.specs.declared.ident.Number.{Number}
-use Rattle.vod_expr.specs.declared.word.Mark.{Mark}
-use Rattle.vod_expr.specs.declared.word.Mark.TheVariants as mark
 use Rattle.vod_expr.specs.declared.machine.Frame.{Frame}
 use Rattle.vod_expr.specs.declared.machine.Frame.TheVariants.{Prefix, Left, Chosen, Otherwise, Paren, Index, Range, Call, Brace, Concat, Replicate}
-use Rattle.vod_expr.specs.declared.machine.Head.{Head}
-use Rattle.vod_expr.specs.declared.machine.Head.TheVariants.{Wanted, Bare, Named, Whole, Outer}
 use Rattle.vod_expr.specs.Operators.{unary_text, binary_text, tight}
-use Rattle.vod_expr.specs.Grammar.{Lexeme, IsSymbol, IsName, ident_of, IsNumber, at, IsExpr, AreExprs, number, name, index, range, call, paren, concat, replicate, prefixed, joined, choice, one, more}
-use Rattle.vod_expr.specs.Machine.{mark_text, mark_of, unary_of, binary_of, Machine, machine, Reduced, reduced, reduce, whole, at_close_paren, at_close_bracket, at_comma, at_colon, at_open_brace, at_close_brace, chosen, joined_with, at_part, level_at, behind, followed, preceded, opened, named, outer, on_mark, on_operator, on_operand, on_symbol, on_kind, step, run, tree}
-use Rattle.vod_expr.proofs.Words.{mark_spelled, unary_unmarked, unary_spelled, binary_unmarked, binary_spelled, tight_some, tight_within}
-use Rattle.vod_expr.specs.Grammar.{Begins}
-use Rattle.vod_expr.specs.Machine.{alone, ended, start}
-use Rattle.vod_expr.proofs.Words.{mark_found, unary_found, binary_found}
+use Rattle.vod_expr.specs.Grammar.{Lexeme, IsSymbol, IsName, ident_of, at, IsExpr, AreExprs, number, name, index, range, call, paren, concat, replicate, prefixed, joined, choice, one, more}
+use Rattle.vod_expr.specs.Machine.{Reduced, reduced, reduce, tree}
 
 -- an expression of a level is one of each lower level
 pub lower : (m : ℕ) (ts : List Lexeme) (x : Expr) → IsExpr m ts x → (k : ℕ) → k ≤ m → IsExpr k ts x

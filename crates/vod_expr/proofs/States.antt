@@ -1,8 +1,8 @@
 -- What each state stands behind, and that each step keeps it.
-use Rattle.std.proofs.Common.{◌≡◌, ℕ, suc, ◌<◌, ◌≤◌, nat_lt, Bool, true, false, cond, List, [], ◌∷◌, ◌++◌, Option, None, Some, option_and_then, refl, ap, sym, subst, ◌∙◌, append_assoc, append-nil, codes, arith}
+use Rattle.std.proofs.Common.{◌≡◌, ℕ, ◌≤◌, List, [], ◌∷◌, ◌++◌, Option, None, Some, option_and_then, refl, ap, sym, subst, ◌∙◌, append_assoc, append-nil, codes, arith}
 use Rattle.vod_token.specs.declared.TokenKind.{TokenKind}
 use Rattle.vod_token.specs.declared.TokenKind.TheVariants as kinds
-use Rattle.vod_tree.specs.declared.expr.Expr.{Expr, out-Expr, out-roll-Expr}
+use Rattle.vod_tree.specs.declared.expr.Expr.{Expr}
 use Rattle.vod_tree.specs.declared.expr.ExprKind.{ExprKind}
 use Rattle.vod_tree.specs.declared.expr.ExprKind.TheVariants as tree_kind
 use Rattle.vod_tree.specs.declared.expr.UnaryOp.{UnaryOp}
@@ -15,13 +15,13 @@ use Rattle.vod_expr.specs.declared.machine.Frame.{Frame}
 use Rattle.vod_expr.specs.declared.machine.Frame.TheVariants.{Prefix, Left, Chosen, Otherwise, Paren, Index, Range, Call, Brace, Concat, Replicate}
 use Rattle.vod_expr.specs.declared.machine.Head.{Head}
 use Rattle.vod_expr.specs.declared.machine.Head.TheVariants.{Wanted, Bare, Named, Whole, Outer}
-use Rattle.vod_expr.specs.Operators.{unary_text, binary_text, tight}
-use Rattle.vod_expr.specs.Grammar.{Lexeme, IsSymbol, IsName, ident_of, IsNumber, at, IsExpr, AreExprs, number, name, index, range, call, paren, concat, replicate, prefixed, joined, choice, one, more}
-use Rattle.vod_expr.specs.Machine.{mark_text, mark_of, unary_of, binary_of, Machine, machine, Reduced, reduced, reduce, whole, at_close_paren, at_close_bracket, at_comma, at_colon, at_open_brace, at_close_brace, chosen, joined_with, at_part, level_at, behind, followed, preceded, opened, named, outer, on_mark, on_operator, on_operand, on_symbol, on_kind, step, run, tree}
+use Rattle.vod_expr.specs.Operators.{tight}
+use Rattle.vod_expr.specs.Grammar.{Lexeme, IsSymbol, IsName, ident_of, IsNumber, at, IsExpr, AreExprs, number, name, index, range, call, paren, concat, replicate, one}
+use Rattle.vod_expr.specs.Machine.{mark_text, mark_of, unary_of, binary_of, Machine, machine, reduce, at_close_paren, at_close_bracket, at_comma, at_colon, at_open_brace, at_close_brace, at_part, behind, followed, preceded, opened, named, outer, on_mark, on_operator, on_operand, on_symbol, on_kind, step, run, tree}
 use Rattle.std.specs.List.{AllByRecursion}
 use Rattle.vod_expr.specs.Machine.{alone, ended, start}
 use Rattle.vod_expr.proofs.Words.{tight_some, tight_within, mark_found, unary_found, binary_found}
-use Rattle.vod_expr.proofs.Sound.{lower, need, frame_need, Parts, none, part, parts_last, Begun, nothing, in_prefix, in_left, in_chosen, in_otherwise, in_paren, in_index, in_range, in_call, in_brace, in_concat, in_replicate, Taken, taken}
+use Rattle.vod_expr.proofs.Sound.{need, none, part, parts_last, Begun, nothing, in_prefix, in_left, in_chosen, in_otherwise, in_paren, in_index, in_range, in_call, in_brace, in_concat, in_replicate, Taken, taken}
 
 -- behind a name; behind a whole expression; behind the inner `}` of a replication
 pub record AfterName (fs : List Frame) (ts : List Lexeme) (n : Ident) : Type 0 where

@@ -1,5 +1,5 @@
 -- Expressions read token by token: what may come next, and what it adds.
-use Rattle.std.specs.Prelude.{ℕ, nat_lt, nat_eq, Bool, true, false, List, [], ◌∷◌, ◌++◌, Option, None, Some, option_and_then, if◌then◌else◌, codes}
+use Rattle.std.specs.Prelude.{ℕ, nat_lt, nat_eq, Bool, List, [], ◌∷◌, ◌++◌, Option, None, Some, option_and_then, if◌then◌else◌, codes}
 use Rattle.std.specs.Cmp.Lexicographic.{pointwise}
 use Rattle.vod_token.specs.declared.TokenKind.{TokenKind}
 use Rattle.vod_token.specs.declared.TokenKind.TheVariants as kinds
@@ -18,7 +18,7 @@ use Rattle.vod_expr.specs.declared.machine.Frame.{Frame}
 use Rattle.vod_expr.specs.declared.machine.Frame.TheVariants.{Prefix, Left, Chosen, Otherwise, Paren, Index, Range, Call, Brace, Concat, Replicate}
 use Rattle.vod_expr.specs.declared.machine.Head.{Head}
 use Rattle.vod_expr.specs.declared.machine.Head.TheVariants.{Wanted, Bare, Named, Whole, Outer}
-use Rattle.vod_expr.specs.Operators.{unary_text, binary_text, tight}
+use Rattle.vod_expr.specs.Operators.{tight}
 use Rattle.vod_expr.specs.Grammar.{Lexeme, ident_of, at}
 
 -- two texts are one

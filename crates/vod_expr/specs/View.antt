@@ -5,7 +5,7 @@ use Rattle.vod_tree.specs.declared.expr.ExprKind.{ExprKind}
 use Rattle.vod_tree.specs.declared.expr.ExprKind.TheVariants as e
 use Rattle.vod_expr.specs.declared.machine.Reader.{Reader}
 use Rattle.vod_expr.specs.declared.machine.Frame.{Frame}
-use Rattle.vod_expr.specs.declared.machine.Frame.TheVariants.{Prefix, Left, Chosen, Otherwise, Paren, Index, Range, Call, Brace, Concat, Replicate}
+use Rattle.vod_expr.specs.declared.machine.Frame.TheVariants.{Prefix, Left, Otherwise}
 use Rattle.vod_expr.specs.Grammar.{at}
 use Rattle.vod_expr.specs.Operators.{tight}
 use Rattle.vod_expr.specs.Machine.{Machine, machine, reduce, reduced, ended}

@@ -8,14 +8,14 @@ mod read;
 mod tests;
 mod word;
 
-pub use read::read_expr;
-use std::alloc::AllocError;
-use vod_token::one_literal;
-
 ghost use Rattle.std.specs.Prelude.{◌≡◌, ◌∷◌, ◌++◌, List, ℕ, length};
 ghost use Rattle.vod_tree.specs.declared.expr.Expr.{Expr};
 ghost use Rattle.vod_expr.specs.Answer.{EndsExpr, IsRead};
 ghost use Rattle.vod_expr.specs.Grammar.{Lexeme, IsExpr, IsLongest};
+
+pub use read::read_expr;
+use std::alloc::AllocError;
+use vod_token::one_literal;
 
 /// Why tokens are no expression or no source.
 #[derive(Clone, Copy, Debug, PartialEq, Eq)]

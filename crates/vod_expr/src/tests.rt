@@ -190,12 +190,7 @@ fn show_all(alloc: Global, out: &mut String, expr: &Expr) -> Result<(), AllocErr
 }
 
 // What is answered from a place of the tokens on.
-fn answer(
-    alloc: Global,
-    source: &str,
-    tokens: &[Token],
-    from: usize,
-) -> Result<String, AllocError>
+fn answer(alloc: Global, source: &str, tokens: &[Token], from: usize) -> Result<String, AllocError>
     requires { All (IsTokenOf source.now) tokens.now }
 {
     let mut text = String::new(alloc);
@@ -325,7 +320,10 @@ fn stronger_operators_group_first(rt: HostRuntime) {
         ("a<<b>>c", " (>>.0 (<<.0 a.0 b.3) c.6) 5"),
         ("a?b:c?d:e", " (?:.0 a.0 b.2 (?:.4 c.4 d.6 e.8)) 9"),
         ("a?b?c:d:e", " (?:.0 a.0 (?:.2 b.2 c.4 d.6) e.8) 9"),
-        ("(a?b:c)?d:e", " (?:.0 (paren.0 (?:.1 a.1 b.3 c.5)) d.8 e.10) 11"),
+        (
+            "(a?b:c)?d:e",
+            " (?:.0 (paren.0 (?:.1 a.1 b.3 c.5)) d.8 e.10) 11",
+        ),
         ("-a*b", " (*.0 (-.0 a.1) b.3) 4"),
         ("a- -b", " (-.0 a.0 (-.3 b.4)) 4"),
         ("a&&&b", " (&&.0 a.0 (&.3 b.4)) 4"),

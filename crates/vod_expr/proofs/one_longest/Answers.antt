@@ -1,4 +1,4 @@
-use Rattle.std.proofs.Common.{◌≡◌, arith}
+use Rattle.std.proofs.Common.{arith}
 use Rattle.vod_expr.proofs.one_longest.Goals as goal
 
 pub returns : goal.returns
