@@ -1,20 +1,18 @@
 -- The number that a text stands for is the one that is read.
-use Rattle.std.proofs.Common.{◌≡◌, ℕ, zero, suc, ◌+◌, ◌%◌, ◌^◌, ◌<◌, ◌≤◌, nat_le, nat_lt, ◌==◌, ◌&&◌, Bool, true, false, cond, List, [], ◌∷◌, ◌++◌, length, take, drop, get_or, Option, None, Some, refl, ap, sym, subst, ◌∙◌, append-nil, codes, arith, lit<, lit≤}
+use Rattle.std.proofs.Common.{◌≡◌, ℕ, ◌+◌, ◌^◌, ◌<◌, ◌≤◌, nat_le, nat_lt, ◌==◌, ◌&&◌, Bool, true, false, cond, List, [], ◌∷◌, ◌++◌, length, take, drop, get_or, None, Some, refl, ap, sym, subst, ◌∙◌, append-nil, codes, arith, lit<, lit≤}
 use Rattle.std.proofs.lemmas.Bool.Decides.{nat_tests}
-use Rattle.std.proofs.lemmas.Grind.{common_steps}
 use Rattle.std.proofs.lemmas.Nat.{mod_below, pow_pos}
 use Rattle.std.specs.List.{prefix_len}
 use Rattle.vod_text.specs.Numeral.{IsBased, based_value}
 use Rattle.vod_token.proofs.Based.{based_exact, plain_complete, plain_size}
 use Rattle.vod_token.proofs.Numbers.{based_len-le, number_by}
 use Rattle.vod_token.specs.Cut.{BeginsBase, wrong_with, literal_fault}
-use Rattle.vod_token.specs.Form.{is_white, Form, Parts, AreParts, text_of, size_of, has_sign, base_of, IsSpelled, kind_of}
+use Rattle.vod_token.specs.Form.{is_white, Form, text_of, has_sign, base_of, IsSpelled, kind_of}
 use Rattle.vod_token.specs.Form.Form.{Word, Plain, Based, Directive, Symbol}
-use Rattle.vod_token.specs.Literal.{literal, IsLiteral, StandsFor, literal_of_form, found_literal, IsRight, literal_of}
+use Rattle.vod_token.specs.Literal.{IsLiteral, StandsFor, literal_of_form, found_literal, IsRight, literal_of}
 use Rattle.vod_token.specs.Scan.{number_at, size_len, based_at, plain_at, tail_len}
 use Rattle.vod_token.specs.Span.{IsTokenText}
 use Rattle.vod_token.specs.Word.{is_reserved}
-use Rattle.vod_token.specs.declared.TokenKind.{TokenKind}
 use Rattle.vod_token.specs.declared.TokenKind.TheVariants as kinds
 use Rattle.vod_token.specs.declared.LexFault.{LexFault}
 use Rattle.vod_token.specs.declared.value.Literal.{Literal}

@@ -252,6 +252,10 @@ fn numbers_have_values(rt: HostRuntime) {
             signed,
             value,
         };
-        assert_eq!(rt; first_literal(rt.alloc(), source), Some(want), "at {source}");
+        assert_eq!(rt;
+            first_literal(rt.alloc(), source),
+            Some(want),
+            "at {source}"
+        );
     }
 }

@@ -1,10 +1,10 @@
-use Rattle.std.proofs.Common.{◌≡◌, ◌+◌, take, drop, get_or, ap, sym, subst, ◌∙◌, refl}
+use Rattle.std.proofs.Common.{◌≡◌, ◌+◌, take, drop, ap, sym, subst, ◌∙◌, refl}
 use Rattle.std.specs.List.{prefix_len}
 use Rattle.vod_token.proofs.Literals.{quoted_number, unquoted_number, right_anywhere, found_anywhere}
 use Rattle.vod_token.proofs.Numbers.{based_len-whole}
 use Rattle.vod_token.specs.Form.{is_white}
 use Rattle.vod_token.specs.Literal.{IsRight, found_literal}
-use Rattle.vod_token.specs.Scan.{number_at, based_at, plain_at}
+use Rattle.vod_token.specs.Scan.{based_at}
 use Rattle.vod_token.proofs.value.literal_in.Goals as goal
 
 pub based_literal-requires-clause-size : goal.based_literal-requires-clause-size
