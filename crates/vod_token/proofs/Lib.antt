@@ -5,6 +5,7 @@ pub mod Fronts
 pub mod Layouts
 pub mod Lexemes
 pub mod Lists
+pub mod Literals
 pub mod Nestings
 pub mod Numbers
 pub mod Readings

@@ -57,7 +57,7 @@ based_len-whole base n text front e f =
     same ∙ sym long
 
 -- What is answered on the number at the front, with the parts as the code finds them.
-number_by : (bytes : List ℕ) (at size gap : ℕ) (b : Bool) (o : Option (Form × ℕ)) → size ≡ size_len bytes → gap ≡ prefix_len is_white (drop size bytes)
+pub number_by : (bytes : List ℕ) (at size gap : ℕ) (b : Bool) (o : Option (Form × ℕ)) → size ≡ size_len bytes → gap ≡ prefix_len is_white (drop size bytes)
     → get_or bytes (size + gap) 0 == 39 ≡ b → cond b (based_at (take size bytes) (size + gap + 1) (drop (size + gap + 1) bytes)) (plain_at (take size bytes)) ≡ o → number_at bytes ≡ o
 unfolding number_at
 number_by bytes at size gap b o e f test h =

@@ -13,7 +13,7 @@ use Rattle.vod_token.specs.Form.{Form, kind_of}
 use Rattle.vod_token.specs.Form.Form.{Word, Plain, Based, Directive, Symbol}
 use Rattle.vod_token.specs.Nesting.{deep_at}
 use Rattle.vod_token.specs.Scan.{token_at}
-use Rattle.vod_token.specs.Span.{AreTokens, LiesIn, IsTokenText}
+use Rattle.vod_token.specs.Span.{AreTokens, LiesIn, IsTokenText, IsTokenOf}
 use Rattle.vod_token.specs.declared.TheConstants.{LITERAL_BITS}
 use Rattle.vod_token.specs.declared.LexFault.{LexFault}
 use Rattle.vod_token.specs.declared.LexFault.TheVariants.{At, Name, Literal, Nesting, Memory}
@@ -75,6 +75,11 @@ pub tokens_lie : (source : List ℕ) (from : ℕ) (ts : List Token) → AreToken
 tokens_lie source from [] h k d lt = absurd (omega arith)
 tokens_lie source from (t ∷ ts) h zero d lt = h.1
 tokens_lie source from (t ∷ ts) h (suc k) d lt = tokens_lie source t.end ts h.3 k d (omega arith)
+
+tokens_each : (source : List ℕ) (from : ℕ) (ts : List Token) → AreTokens source from ts → All (IsTokenOf source) ts
+tokens_each source from [] h k d lt = absurd (omega arith)
+tokens_each source from (t ∷ ts) h zero d lt = record { lies = h.1; text = h.2 }
+tokens_each source from (t ∷ ts) h (suc k) d lt = tokens_each source t.end ts h.3 k d (omega arith)
 
 -- A reading stops for no other reasons.
 IsLex : LexFault → Type 0
@@ -150,6 +155,10 @@ IsRead source ts = Falls 0 source ts None × (deep_at source ts ≡ None)
 pub spans_of : {V : Type 0} (items : V → List Token) (source : List ℕ) (r : Result V LexFault) → IfOk r (λ v. IsRead source (items v)) → IfOk r (λ v. AreTokens source 0 (items v))
 spans_of items source (Ok v) h = falls_tokens h.0 source refl (omega arith)
 spans_of items source (Err e) h = tt
+
+pub each_of : {V : Type 0} (items : V → List Token) (source : List ℕ) (r : Result V LexFault) → IfOk r (λ v. IsRead source (items v)) → IfOk r (λ v. All (IsTokenOf source) (items v))
+each_of items source (Ok v) h = tokens_each source 0 (items v) (falls_tokens h.0 source refl (omega arith))
+each_of items source (Err e) h = tt
 
 accepted_fault : (source : List ℕ) (fault : LexFault) (ts : List Token) → IsFault source fault → IsRead source ts → fault ≡ Memory
 accepted_fault source (At place) ts (us, h) (f, d) = let same = one_fall h ts None f in let e : Some (At place) ≡ None = same.1 in cc

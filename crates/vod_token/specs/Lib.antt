@@ -7,3 +7,4 @@ pub mod Digits
 pub mod Span
 pub mod Fault
 pub mod Front
+pub mod Literal

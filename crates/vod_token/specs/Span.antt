@@ -18,6 +18,11 @@ pub record IsTokenText (text : List ℕ) (kind : TokenKind) : Type 0 where
   pub right : wrong_with 0 (length text) form ≡ None
   pub is : kind ≡ kind_of text form
 
+-- the token lies in the source, and its slice is a token of its kind
+pub record IsTokenOf (source : List ℕ) (t : Token) : Type 0 where
+  pub lies : LiesIn source t
+  pub text : IsTokenText (slice_of source t) t.kind
+
 -- tokens from a place of the source on, whose spans rise
 abbrev pub AreTokens : List ℕ → ℕ → List Token → Type 0
 AreTokens source from [] = ⊤

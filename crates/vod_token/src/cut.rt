@@ -6,7 +6,7 @@ ghost use Rattle.vod_token.specs.Form.{Form, IsSpelled};
 ghost use Rattle.vod_token.specs.Scan.{layout_len};
 ghost use Rattle.vod_token.specs.Nesting.{deep_at};
 ghost use Rattle.vod_token.specs.Fault.{IsCutFault, IsFault};
-ghost use Rattle.vod_token.specs.Span.{AreTokens, LiesIn};
+ghost use Rattle.vod_token.specs.Span.{AreTokens, IsTokenOf};
 ghost use Rattle.vod_token.specs.declared.Token.{Token};
 ghost use Rattle.vod_token.specs.declared.LexFault.{LexFault};
 
@@ -25,6 +25,7 @@ pub fn tokens(alloc: Global, source: &[u8]) -> Result<Vec<Token>, LexFault>
     ensures read { IfOk result (λ tokens. Falls 0 source.now tokens.items None) }
     ensures shallow { IfOk result (λ tokens. deep_at source.now tokens.items ≡ None) }
     ensures spans { IfOk result (λ tokens. AreTokens source.now 0 tokens.items) }
+    ensures each { IfOk result (λ tokens. All (IsTokenOf source.now) tokens.items) }
     ensures fault { IfErr result (IsFault source.now) }
 
     // A source that falls into tokens is read, unless memory runs out; any other is refused where it stops.

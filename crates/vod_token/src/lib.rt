@@ -14,12 +14,14 @@ mod reserved;
 mod symbol;
 #[cfg(test)]
 mod tests;
+mod value;
 
 pub use bytes::is_white;
 pub use cut::{one_form, one_reading, tokens};
 pub use lexeme::{longest_token, one_token};
 pub use nesting::first_too_deep;
 use std::alloc::{AllocError, AllocFailed};
+pub use value::{Literal, literal_of, one_literal};
 
 /// A stretch of the source that is one token: `source[start..end]`.
 #[derive(Clone, Copy, Debug, PartialEq, Eq)]

@@ -20,10 +20,10 @@ const LITERAL_MAX: u128 = u128::MAX >> (u128::BITS - LITERAL_BITS);
 
 // The digits behind the `'` of a based number.
 #[derive(Clone, Copy)]
-struct Digits {
-    base: u8,
-    start: usize,
-    end: usize,
+pub(crate) struct Digits {
+    pub(crate) base: u8,
+    pub(crate) start: usize,
+    pub(crate) end: usize,
 }
 
 // The number at the front, and its length.
@@ -40,7 +40,7 @@ pub(crate) fn number_at(bytes: &[u8], at: u32) -> Result<(TokenKind, usize), Lex
 }
 
 // The byte at a place, 0 past the end.
-fn byte_at(bytes: &[u8], place: usize) -> u8
+pub(crate) fn byte_at(bytes: &[u8], place: usize) -> u8
     ensures value { result ≡ slice_index bytes.now place }
     ensures within { 0 < result → place < length bytes.now }
 {
@@ -80,7 +80,7 @@ fn based_number(
 }
 
 // The digits behind a `'`: a sign, the letter of the base and white space stand before them.
-fn digits_behind(tail: &[u8]) -> Option<Digits>
+pub(crate) fn digits_behind(tail: &[u8]) -> Option<Digits>
     ensures none { IfNone result (tail_len tail.now ≡ 0) }
     ensures some { IfSome result (AreDigits tail.now) }
 {
@@ -99,7 +99,7 @@ fn digits_behind(tail: &[u8]) -> Option<Digits>
     }
 }
 
-fn sign_len(tail: &[u8]) -> usize
+pub(crate) fn sign_len(tail: &[u8]) -> usize
     ensures value { result ≡ sign_len tail.now }
     ensures within { result ≤ length tail.now }
 {
@@ -141,7 +141,7 @@ fn check_literal(size: &[u8], digits: &[u8], base: u8, at: u32) -> Result<(), Le
 }
 
 // The size in bits that the digits give, 2^128 - 1 for a greater one, and 32 where there are none.
-fn size_of(size: &[u8]) -> u128
+pub(crate) fn size_of(size: &[u8]) -> u128
     requires { based_len 10 size.now ≡ length size.now }
     ensures { result ≡ min (size_of size.now) (2 ^ 128 - 1) }
 {

@@ -1,6 +1,6 @@
 //! Texts and what they are read as, by hand from the rules.
 
-use crate::{LexFault, Token, TokenKind, tokens};
+use crate::{LexFault, Literal, Token, TokenKind, literal_of, tokens};
 use std::alloc::{AllocError, Global};
 use std::process::Abort;
 
@@ -214,5 +214,48 @@ fn limits_are_kept(rt: HostRuntime) {
     ] {
         let source = repeated(alloc, first, count, next).expect(&rt, "memory");
         assert_eq!(rt; fault(alloc, &source), want, "at {first} {count} {next}");
+    }
+}
+
+// The number that the first token stands for, where it is one.
+fn first_literal(alloc: Global, source: &str) -> Option<Literal> {
+    if source.len() > 1_048_576 {
+        return None;
+    }
+    let tokens = tokens(alloc, source.as_bytes()).ok()?;
+    let first = tokens.first()?;
+    match first.kind {
+        TokenKind::Number => Some(literal_of(
+            &source.as_bytes()[first.start as usize..first.end as usize],
+        )),
+        _ => None,
+    }
+}
+
+#[test]
+fn numbers_have_values(rt: HostRuntime) {
+    for (source, size, signed, value) in [
+        ("0", 32, true, 0),
+        ("2_147_483_647", 32, true, 2_147_483_647),
+        ("8'hff", 8, false, 255),
+        ("8 'Sh F_F", 8, true, 255),
+        ("4'b1_0110", 4, false, 6),
+        ("'d5", 32, false, 5),
+        ("'so17", 32, true, 15),
+        ("1'd2", 1, false, 0),
+        ("32'h1_2345_6789", 32, false, 0x2345_6789),
+        ("64'hffff_ffff_ffff_ffff", 64, false, 0xffff_ffff_ffff_ffff),
+        ("0_8'd9", 8, false, 9),
+    ] {
+        let want = Literal {
+            size,
+            signed,
+            value,
+        };
+        assert_eq!(rt;
+            first_literal(rt.alloc(), source),
+            Some(want),
+            "at {source}"
+        );
     }
 }

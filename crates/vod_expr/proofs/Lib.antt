@@ -1,0 +1,11 @@
+pub mod Words
+pub mod Complete
+pub mod Unique
+pub mod Sound
+pub mod States
+pub mod Viable
+pub mod Numerals
+pub mod Longest
+pub mod Reducing
+pub mod Taken
+pub mod Ends

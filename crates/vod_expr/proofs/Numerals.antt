@@ -1,0 +1,44 @@
+-- The number of a token is the one that it stands for.
+use Rattle.std.proofs.Common.{◌≡◌, ℕ, ◌%◌, ◌^◌, Bool, true, false, cond, List, refl, ap, sym, subst, ◌∙◌}
+use Rattle.vod_token.specs.Form.{Form, IsSpelled, kind_of}
+use Rattle.vod_token.specs.Form.Form.{Word, Plain, Based, Directive, Symbol}
+use Rattle.vod_token.specs.Literal.{literal, StandsFor, literal_of}
+use Rattle.vod_token.specs.Span.{IsTokenText}
+use Rattle.vod_token.specs.Word.{is_reserved}
+use Rattle.vod_token.specs.declared.TokenKind.TheVariants as kinds
+use Rattle.vod_token.specs.declared.value.Literal.{Literal}
+use Rattle.vod_expr.specs.Grammar.{Lexeme, IsNumber, number_from}
+use Rattle.vod_expr.specs.Numerals.{number_of}
+use Rattle.vod_expr.proofs.Complete.{Knows}
+use Rattle.vod_expr.proofs.States.{Sure}
+
+-- what is known of texts that stand for numbers
+abbrev pub OneLiteral : Type 0
+OneLiteral = (text : List ℕ) (n : Literal) → StandsFor text n → literal_of text ≡ n
+
+pub knows : OneLiteral → Knows number_of
+unfolding number_of
+knows one t n isn = ap (number_from t.place) (one t.text isn.1.0 isn.1.1) ∙ sym isn.1.2
+
+own : OneLiteral → (t : Lexeme) → t.kind ≡ kinds.Number → (n : Literal) → StandsFor t.text n → IsNumber t (number_of t)
+own one t kind n stands =
+    let isn : IsNumber t (number_from t.place n) = (kind, (n, stands, refl)) in
+    subst (IsNumber t) (sym (knows one t (number_from t.place n) isn)) isn
+
+word_is_none : (b : Bool) → kinds.Number ≡ cond b kinds.Reserved kinds.Name → ⊥
+word_is_none true h = cc
+word_is_none false h = cc
+
+by_form : OneLiteral → (t : Lexeme) → t.kind ≡ kinds.Number → (form : Form) → IsSpelled t.text form → t.kind ≡ kind_of t.text form → IsNumber t (number_of t)
+by_form one t k Word spelled is = absurd (word_is_none (is_reserved t.text) (sym k ∙ is))
+by_form one t k (Plain value) spelled is = own one t k (literal 32 true value) (Plain value, spelled, refl)
+by_form one t k (Based size signed value) spelled is = own one t k (literal size signed (value % (2 ^ size))) (Based size signed value, spelled, refl)
+by_form one t k Directive spelled is = let clash : kinds.Number ≡ kinds.Directive = sym k ∙ is in cc
+by_form one t k Symbol spelled is = let clash : kinds.Number ≡ kinds.Symbol = sym k ∙ is in cc
+
+pub sure : OneLiteral → (t : Lexeme) → IsTokenText t.text t.kind → Sure number_of t
+sure one t is = λ k. by_form one t k is.form is.spelled is.is
+
+pub number_is : OneLiteral → (text : List ℕ) (place : ℕ) (n : Literal) → StandsFor text n → number_from place n ≡ number_of (record { kind = kinds.Number; text = text; place = place })
+unfolding number_of
+number_is one text place n stands = ap (number_from place) (sym (one text n stands))

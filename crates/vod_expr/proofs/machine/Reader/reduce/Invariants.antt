@@ -1,0 +1,10 @@
+use Rattle.std.proofs.Common.{◌≡◌, length}
+use Rattle.vod_expr.specs.Machine.{reduce}
+use Rattle.vod_expr.specs.View.{frames_of}
+use Rattle.vod_expr.proofs.machine.Reader.reduce.Given as goal
+
+abbrev pub invariant-loop-tree : goal.invariant-loop-tree
+invariant-loop-tree l = reduce l.level (frames_of l.fn.self) l.fn.place l.fn.kind ≡ reduce l.level (frames_of l.self) l.begin l.tree
+
+abbrev pub decreases-loop-tree : goal.decreases-loop-tree
+decreases-loop-tree l = length (frames_of l.self)
