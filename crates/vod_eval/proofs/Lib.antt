@@ -1,0 +1,6 @@
+pub mod Cuts
+pub mod Depth
+pub mod Layers
+pub mod Lists
+pub mod Callable
+pub mod Enter
