@@ -10,7 +10,7 @@ pub mod thin;
 
 pub use sized::{
     BinaryOp, ComparisonOp, LogicalOp, Named, ReductionOp, ShiftOp, SizedExpr, SizedKind, UnaryOp,
-    Variable,
+    Variable, value_hangs_on_reads,
 };
 pub use statement::{
     Body, CaseItem, Function, Locals, Part, PartPlace, Place, Places, Size, Statement,

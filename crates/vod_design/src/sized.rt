@@ -1,4 +1,10 @@
 //! Expressions with the size and sign at which each part is evaluated (IEEE 1364-2005, clause 5).
+ghost use Rattle.std.specs.Prelude.{◌≡◌, List, All};
+ghost use Rattle.vod_design.specs.declared.statement.Function.{Function};
+ghost use Rattle.vod_design.specs.Values.{Values, Frame};
+ghost use Rattle.vod_design.specs.Run.{eval};
+ghost use Rattle.vod_design.specs.Reads.{reads, Agree};
+
 use sqlite_items::{Boxed, Items};
 use vod_bits::Bits;
 
@@ -152,3 +158,9 @@ pub enum SizedKind {
     /// A call of a function by its number, with its arguments (10.4.3).
     Call(u32, Items<SizedExpr>),
 }
+
+/// An expression's value hangs on what it reads alone: the values of a function's variables aside, two environments that agree on
+/// that give it one value.
+pub fn value_hangs_on_reads()
+    ensures { (functions : List Function) (u v : Values) (frame : Frame) (e : SizedExpr) → All (Agree u v) (reads e) → eval functions u frame e ≡ eval functions v frame e }
+{}
