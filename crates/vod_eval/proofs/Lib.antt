@@ -4,3 +4,4 @@ pub mod Layers
 pub mod Lists
 pub mod Callable
 pub mod Enter
+pub mod Tables

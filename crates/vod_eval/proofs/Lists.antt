@@ -1,5 +1,5 @@
 -- The most of several, and what is kept one after the other.
-use Rattle.std.proofs.Common.{◌≡◌, ℕ, zero, suc, ◌+◌, ◌≤◌, ◌<◌, max, Bool, true, false, ◌||◌, List, [], ◌∷◌, ◌++◌, map, flat_map, length, take, drop, get_or, length-append, refl, sym, ◌∙◌, ap, arith, add-one, append_assoc, drop-cons}
+use Rattle.std.proofs.Common.{◌≡◌, ℕ, zero, suc, ◌+◌, ◌≤◌, ◌<◌, max, Bool, true, false, ◌||◌, List, [], ◌∷◌, ◌++◌, map, flat_map, length, take, drop, slice_get, Some, get_or, length-append, refl, sym, ◌∙◌, ap, arith, add-one, append_assoc, drop-cons}
 use Rattle.std.specs.List.{list_any}
 use Rattle.std.proofs.Math.ListN.{set, drop_of_length-le}
 use Rattle.std.proofs.Math.Seq.{take-suc, take-suc-set, set-append_seam}
@@ -89,7 +89,7 @@ get_same [] i d e h = absurd (omega arith)
 get_same (x ∷ xs) zero d e h = refl
 get_same (x ∷ xs) (suc i) d e h = get_same xs i d e (omega arith)
 
-get_seam : {X : Type 0} (ys : List X) (y : X) (zs : List X) (d : X) → get_or (ys ++ y ∷ zs) (length ys) d ≡ y
+pub get_seam : {X : Type 0} (ys : List X) (y : X) (zs : List X) (d : X) → get_or (ys ++ y ∷ zs) (length ys) d ≡ y
 get_seam [] y zs d = refl
 get_seam (x ∷ ys) y zs d = get_seam ys y zs d
 
@@ -97,3 +97,23 @@ get_seam (x ∷ ys) y zs d = get_seam ys y zs d
 pub get_behind : {X : Type 0} (ys room : List X) (i : ℕ) (d : X) → length ys ≡ i → i < length room → get_or (ys ++ drop i room) i d ≡ get_or room i d
 get_behind ys room i d e h =
     ap (λ zs. get_or (ys ++ zs) i d) (drop-cons room i d h) ∙ ap (λ k. get_or (ys ++ get_or room i d ∷ drop (suc i) room) k d) (sym e) ∙ get_seam ys (get_or room i d) (drop (suc i) room) d
+
+most_append : (ns : List ℕ) (n : ℕ) → most (ns ++ n ∷ []) ≡ max (most ns) n
+most_append [] n = omega arith
+most_append (m ∷ ns) n = let more : most (ns ++ n ∷ []) ≡ max (most ns) n = most_append ns n in omega arith
+
+staged_append : (ns : List ℕ) (n : ℕ) → staged (ns ++ n ∷ []) ≡ max (staged ns) (length ns + max n 1)
+staged_append [] n = omega arith
+staged_append (m ∷ ns) n = let more : staged (ns ++ n ∷ []) ≡ max (staged ns) (length ns + max n 1) = staged_append ns n in omega arith
+
+pub most_take : {A : Type 0} (f : A → ℕ) (xs : List A) (i : ℕ) (x : A) → x ≡ get_or xs i x → i < length xs → most (map f (take (i + 1) xs)) ≡ max (most (map f (take i xs))) (f x)
+most_take f xs i x is h = ap most (map_take_more f xs i x is h) ∙ most_append (map f (take i xs)) (f x)
+
+pub staged_take : {A : Type 0} (f : A → ℕ) (xs : List A) (i : ℕ) (x : A) → x ≡ get_or xs i x → i < length xs → staged (map f (take (i + 1) xs)) ≡ max (staged (map f (take i xs))) (i + max (f x) 1)
+staged_take f xs i x is h =
+    ap staged (map_take_more f xs i x is h) ∙ staged_append (map f (take i xs)) (f x) ∙ ap (λ k. max (staged (map f (take i xs))) (k + max (f x) 1)) (map_take_length f xs i (omega arith))
+
+pub get_there : {X : Type 0} (xs : List X) (i : ℕ) (x : X) → x ≡ get_or xs i x → i < length xs → slice_get xs i ≡ Some x
+get_there [] i x is h = absurd (omega arith)
+get_there (y ∷ xs) zero x is h = ap Some (sym is)
+get_there (y ∷ xs) (suc i) x is h = get_there xs i x is (omega arith)

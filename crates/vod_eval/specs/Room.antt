@@ -1,5 +1,5 @@
 -- How much room the evaluation takes: a value for each variable of a function that is called, and for each index of a left side.
-use Rattle.std.specs.Prelude.{ℕ, zero, suc, ◌+◌, ◌==◌, max, if◌then◌else◌, List, [], ◌∷◌, map, length, slice_get, Option, None, Some}
+use Rattle.std.specs.Prelude.{ℕ, zero, suc, ◌+◌, ◌==◌, max, if◌then◌else◌, List, [], ◌∷◌, map, length, slice_get, slice_index_or, min, ◌-◌, ◌^◌, Option, None, Some}
 use Rattle.vod_design.specs.declared.sized.SizedExpr.{SizedExpr}
 use Rattle.vod_design.specs.declared.sized.SizedKind.TheOpen.{SizedKind-F}
 use Rattle.vod_design.specs.declared.sized.SizedKind.TheFolds.{fold-SizedExpr}
@@ -80,3 +80,11 @@ call_room functions (suc k) n = if n == k then function_room (call_room function
 -- the room of an expression of a design with these functions
 unfoldable pub room_of : List Function → SizedExpr → ℕ
 room_of functions e = expr_room (call_room functions (length functions)) e
+
+-- the room of a call of each function by a table of them
+abbrev pub room_in : List ℕ → ℕ → ℕ
+room_in rooms n = slice_index_or rooms n 0
+
+-- as a number of the machine: the greatest of these where it is more
+abbrev pub saturated : ℕ → ℕ
+saturated n = min n (2 ^ 64 - 1)
