@@ -99,7 +99,6 @@ branch calls values item = fold-CaseItem (Frame → Frame) Branch (effect (opera
 abbrev pub nothing : Values
 nothing = record { signal = λ n. BX ∷ []; word = λ memory place. None }
 
-
 -- A call assigns each argument to its input (10.4.3); an input without one is x
 abbrev pub entered : List Size → List Operand → Frame
 entered [] arguments = []

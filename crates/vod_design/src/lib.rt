@@ -1,7 +1,6 @@
 //! Designs: what a simulation is of, and the vectors that drive it.
 #![tactic(auto)]
 
-
 mod sized;
 mod statement;
 #[cfg(test)]

@@ -68,15 +68,16 @@ cut_size : (n : ℕ) (signed : Bool) (xs : List Bit) → n ≤ WIDTH → resize_
 unfolding lowest resize_bits
 cut_size n signed xs h =
     elim (cases_lt WIDTH (length xs)) [
-      inl l ↦
-        let k : ℕ = length xs - WIDTH in
-        let len : length (drop k xs) ≡ WIDTH = omega (arith, length-drop k xs) in
-        let none : WIDTH - WIDTH ≡ 0 = omega arith in
-        let few : n - WIDTH ≡ 0 = omega arith in
-        let few_too : n - length xs ≡ 0 = omega arith in
-        let count : k + (WIDTH - n) ≡ length xs - n = omega arith in
-        rw (len, few, few_too) (drop-drop (WIDTH - n) k xs ∙ ap (λ m. drop m xs) count)
-    | inr r ↦ let e : length xs - WIDTH ≡ 0 = omega arith in rw e refl ]
+      | inl l ↦
+          let k : ℕ = length xs - WIDTH in
+          let len : length (drop k xs) ≡ WIDTH = omega (arith, length-drop k xs) in
+          let none : WIDTH - WIDTH ≡ 0 = omega arith in
+          let few : n - WIDTH ≡ 0 = omega arith in
+          let few_too : n - length xs ≡ 0 = omega arith in
+          let count : k + (WIDTH - n) ≡ length xs - n = omega arith in
+          rw (len, few, few_too) (drop-drop (WIDTH - n) k xs ∙ ap (λ m. drop m xs) count)
+      | inr r ↦ let e : length xs - WIDTH ≡ 0 = omega arith in rw e refl
+    ]
 
 pub lowest_size : (width : ℕ) (signed : Bool) (xs : List Bit) → at_size width signed (lowest xs) ≡ at_size width signed xs
 unfolding at_size

@@ -80,7 +80,7 @@ pub front_of : {X : Type 0} (inputs locals room cleared rest later : List X) (m 
 front_of inputs locals room cleared rest later m n v p q r s l =
     let h : m + n < length (take m room ++ (cleared ++ later)) = omega (arith, length-append (take m room) (cleared ++ later), length-append cleared later) in
     let whole : take m room ++ (cleared ++ later) ≡ (inputs ++ locals) ++ (rest ++ later)
-        = ap (λ xs. xs ++ (cleared ++ later)) p ∙ ap (λ xs. inputs ++ (xs ++ later)) r ∙ ap (λ xs. inputs ++ xs) (append_assoc locals rest later) ∙ sym (append_assoc inputs locals (rest ++ later)) in
+    = ap (λ xs. xs ++ (cleared ++ later)) p ∙ ap (λ xs. inputs ++ (xs ++ later)) r ∙ ap (λ xs. inputs ++ xs) (append_assoc locals rest later) ∙ sym (append_assoc inputs locals (rest ++ later)) in
     let len : length (inputs ++ locals) ≡ m + n = omega (arith, length-append inputs locals) in
     rw add-one (take-suc-set (take m room ++ (cleared ++ later)) (m + n) v h ∙ ap (λ xs. take (m + n) xs ++ v ∷ []) whole ∙ ap (λ xs. xs ++ v ∷ []) (take_at (inputs ++ locals) (rest ++ later) (m + n) len))
 

@@ -31,10 +31,12 @@ table_is functions (suc k) n =
     let m = call_room functions (suc k) k in
     let count = table_length functions k in
     elim (eqb_tells n k) [
-      inl e ↦ let last : room_in (rows ++ m ∷ []) n ≡ m = ap (λ j. room_in (rows ++ m ∷ []) j) (e.1 ∙ sym count) ∙ get_seam rows m [] 0 in last ∙ ap (call_room functions (suc k)) (sym e.1)
-    | inr e ↦ rw e.0 (elim (cases_lt n k) [
-        inl l ↦ get_or_append_left rows (m ∷ []) 0 n (omega (arith, count)) ∙ table_is functions k n
-      | inr r ↦ behind_row rows k m n count (omega (arith, e.1)) ∙ sym (room_past functions k n r) ]) ]
+      | inl e ↦ let last : room_in (rows ++ m ∷ []) n ≡ m = ap (λ j. room_in (rows ++ m ∷ []) j) (e.1 ∙ sym count) ∙ get_seam rows m [] 0 in last ∙ ap (call_room functions (suc k)) (sym e.1)
+      | inr e ↦ rw e.0 (elim (cases_lt n k) [
+        | inl l ↦ get_or_append_left rows (m ∷ []) 0 n (omega (arith, count)) ∙ table_is functions k n
+        | inr r ↦ behind_row rows k m n count (omega (arith, e.1)) ∙ sym (room_past functions k n r)
+      ])
+    ]
 
 pub table : (functions : List Function) (k : ℕ) → room_in (table_of functions k) ≡ call_room functions k
 table functions k = λ i n. table_is functions k n i
@@ -44,5 +46,6 @@ pub next_room : (functions : List Function) (k : ℕ) (f : Function) → slice_g
     → call_room functions (suc k) k ≡ length f.inputs + length f.locals + 1 + statement_room (room_in (table_of functions k)) f.body
 next_room functions k f h =
     elim (eqb_tells k k) [
-      inl e ↦ rw e.0 (ap (function_room (call_room functions k)) h ∙ ap (λ calls. length f.inputs + length f.locals + 1 + statement_room calls f.body) (sym (table functions k)))
-    | inr e ↦ absurd (e.1 refl) ]
+      | inl e ↦ rw e.0 (ap (function_room (call_room functions k)) h ∙ ap (λ calls. length f.inputs + length f.locals + 1 + statement_room calls f.body) (sym (table functions k)))
+      | inr e ↦ absurd (e.1 refl)
+    ]

@@ -10,8 +10,8 @@ ghost use Rattle.vod_eval.specs.Room.{room_of, expr_room, statement_room, item_r
 ghost use Rattle.vod_eval.specs.Scenes.{callable_in, operand, with_signs, input_bits, unknown_of, run_in, branch_in, index_in, part_room, rooms, calls_of, values_of, scene_values, operand_in, bits_in};
 
 use crate::bits::{
-    at_size, bit_at_place, filled, index_place, is_one, joined, repeated, replaced, select, unknown,
-    unknown_bit,
+    at_size, bit_at_place, filled, index_place, is_one, joined, repeated, replaced, select,
+    unknown, unknown_bit,
 };
 use crate::ops;
 use sqlite_items::{Items, at};
@@ -128,9 +128,7 @@ fn unsized_value(scene: &Scene<'_>, frame: &[Four], e: &SizedExpr, room: &mut [F
             let index = value(scene, frame, index.get(), room);
             bit_at_place(named(scene, frame, *name), index_place(*least, index))
         }
-        SizedKind::Word(memory, place) => {
-            word(scene, *memory, Some(Word::from(*place)), width)
-        }
+        SizedKind::Word(memory, place) => { word(scene, *memory, Some(Word::from(*place)), width) }
         SizedKind::WordIndex(memory, least, index) => {
             let index = value(scene, frame, index.get(), room);
             word(scene, *memory, index_place(*least, index), width)
@@ -183,12 +181,7 @@ fn unsized_value(scene: &Scene<'_>, frame: &[Four], e: &SizedExpr, room: &mut [F
 
 // The parts of a concatenation one behind the other.
 #[cycle(eval)]
-fn concat(
-    scene: &Scene<'_>,
-    frame: &[Four],
-    parts: &[SizedExpr],
-    room: &mut [Four],
-) -> Option<Four>
+fn concat(scene: &Scene<'_>, frame: &[Four], parts: &[SizedExpr], room: &mut [Four]) -> Option<Four>
     requires { most (map (expr_room (rooms scene.now)) parts.now) ≤ length room.old }
     ensures { bits_of_option result ≡ lowest (flat_map (bits_in scene.now frame.now) parts.now) }
 {
@@ -320,7 +313,14 @@ fn run(scene: &Scene<'_>, statement: &Statement, frame: &mut [Four], room: &mut 
                 value: value(scene, frame, tested, room),
                 signed: tested.signed,
             };
-            case(scene, &tested, items.as_slice(), otherwise.get(), frame, room);
+            case(
+                scene,
+                &tested,
+                items.as_slice(),
+                otherwise.get(),
+                frame,
+                room,
+            );
         }
         Statement::Begin(statements) => run_all(scene, statements.as_slice(), frame, room),
         Statement::Empty => {}

@@ -76,7 +76,12 @@ pub fn compared(op: ComparisonOp, a: Four, a_signed: bool, b: Four, b_signed: bo
 {
     let size = width(a).max(width(b));
     let signed = both(a_signed, b_signed);
-    comparison(op, signed, at_size(a, size, signed), at_size(b, size, signed))
+    comparison(
+        op,
+        signed,
+        at_size(a, size, signed),
+        at_size(b, size, signed),
+    )
 }
 
 // Whether both hold.

@@ -58,9 +58,15 @@ pub fn expr_room(rooms: &[usize], e: &SizedExpr) -> usize
         SizedKind::LogicalNot(a) => expr_room(rooms, a.get()),
         SizedKind::Logical(_, a, b) => expr_room(rooms, a.get()).max(expr_room(rooms, b.get())),
         SizedKind::Reduction(_, a) => expr_room(rooms, a.get()),
-        SizedKind::Shift(_, a, amount) => expr_room(rooms, a.get()).max(expr_room(rooms, amount.get())),
+        SizedKind::Shift(_, a, amount) => expr_room(rooms, a.get()).max(expr_room(
+            rooms,
+            amount.get(),
+        )),
         SizedKind::Conditional(test, a, b) => {
-            expr_room(rooms, test.get()).max(expr_room(rooms, a.get()).max(expr_room(rooms, b.get())))
+            expr_room(rooms, test.get()).max(expr_room(rooms, a.get()).max(expr_room(
+                rooms,
+                b.get(),
+            )))
         }
         SizedKind::Concat(parts) => most_room(rooms, parts.as_slice()),
         SizedKind::Replicate(_, a) => expr_room(rooms, a.get()),
@@ -103,11 +109,14 @@ pub fn statement_room(rooms: &[usize], statement: &Statement) -> usize
         Statement::Assign(parts, right) => {
             expr_room(rooms, right).max(parts_room(rooms, parts.as_slice()))
         }
-        Statement::If(test, taken, other) => expr_room(rooms, test)
-            .max(statement_room(rooms, taken.get()).max(statement_room(rooms, other.get()))),
-        Statement::Case(tested, items, otherwise) => expr_room(rooms, tested).max(
-            items_room(rooms, items.as_slice()).max(statement_room(rooms, otherwise.get())),
-        ),
+        Statement::If(test, taken, other) => expr_room(rooms, test).max(statement_room(
+            rooms,
+            taken.get(),
+        ).max(statement_room(rooms, other.get()))),
+        Statement::Case(tested, items, otherwise) => expr_room(rooms, tested).max(items_room(
+            rooms,
+            items.as_slice(),
+        ).max(statement_room(rooms, otherwise.get()))),
         Statement::Begin(statements) => statements_room(rooms, statements.as_slice()),
         Statement::Empty => 0,
     }

@@ -58,9 +58,9 @@ call-returns t c =
     let locals : length c.as_slice-2.result.now ≡ length c.in-Some.function.now.locals = ap length c.as_slice-2.ensures in
     let count : length c.as_slice.result.now + length c.as_slice-2.result.now ≡ length c.in-Some.function.now.inputs + length c.in-Some.function.now.locals = omega arith in
     let signs : with_signs (take (length c.args.arguments.now) c.values.new.room) c.args.arguments.now ≡ args
-        = ap (λ vs. with_signs vs c.args.arguments.now) c.values.ensures ∙ signs_back (calls_of c.args.scene.now) (scene_values c.args.scene.now) c.args.frame.now c.args.arguments.now in
+    = ap (λ vs. with_signs vs c.args.arguments.now) c.values.ensures ∙ signs_back (calls_of c.args.scene.now) (scene_values c.args.scene.now) c.args.frame.now c.args.arguments.now in
     let entry : c.split_at_mut-variables.result.0.now ≡ frame_of c.in-Some.function.now args
-        = c.split_at_mut-variables.ensures.front ∙ ap (λ k. take (k + 1) c.enter.new.room) count ∙ c.enter.ensures ∙ ap (frame_of c.in-Some.function.now) signs in
+    = c.split_at_mut-variables.ensures.front ∙ ap (λ k. take (k + 1) c.enter.new.room) count ∙ c.enter.ensures ∙ ap (frame_of c.in-Some.function.now) signs in
     call_value c.args.scene.now.functions.now c.args.scene.now.limit c.args.n args c.in-Some.function.now c.run.new.frame c.split_at_mut-variables.result.0.now (length c.as_slice.result.now + length c.as_slice-2.result.now) c.index-variables-result.result
     c.in-Some.ensures entry (c.run.ensures ∙ ap (λ s. run (call_below c.args.scene.now.functions.now c.args.n) nothing s c.split_at_mut-variables.result.0.now) c.statement.ensures) count c.index-variables-result.is
     (omega (arith, c.split_at_mut-variables.ensures.front_len))

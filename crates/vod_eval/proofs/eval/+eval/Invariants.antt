@@ -36,7 +36,6 @@ decreases-has_label l = base l.scene.now + 5 * most (map depth l.labels.now) + 4
 abbrev pub decreases-indices : goal.decreases-indices
 decreases-indices l = base l.scene.now + 5 * most (map part_depth l.parts.now) + 4
 
-
 abbrev pub decreases-part_index : goal.decreases-part_index
 decreases-part_index l = base l.scene.now + 5 * part_depth l.part.now + 3
 
@@ -62,6 +61,6 @@ abbrev pub invariant-case-loop-item : goal.invariant-case-loop-item
 invariant-case-loop-item l = record {
   same : l.frame ≡ l.fn.frame;
   left :
-  first_branch (operand_in l.scene l.frame) (operand l.tested.value l.tested.signed) (map (branch_in l.scene) (drop l.item-index l.items)) (run_in l.scene l.otherwise) l.frame
-  ≡ first_branch (operand_in l.scene l.frame) (operand l.tested.value l.tested.signed) (map (branch_in l.scene) l.items) (run_in l.scene l.otherwise) l.frame;
+      first_branch (operand_in l.scene l.frame) (operand l.tested.value l.tested.signed) (map (branch_in l.scene) (drop l.item-index l.items)) (run_in l.scene l.otherwise) l.frame
+      ≡ first_branch (operand_in l.scene l.frame) (operand l.tested.value l.tested.signed) (map (branch_in l.scene) l.items) (run_in l.scene l.otherwise) l.frame;
 }

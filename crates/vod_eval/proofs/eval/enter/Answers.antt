@@ -17,6 +17,6 @@ returns c =
     let is : length inputs ≡ length c.args.function.now.inputs = ap length c.as_slice-inputs.ensures in
     let ls : length locals ≡ length c.args.function.now.locals = ap length c.as_slice-locals.ensures in
     let enough : length inputs + length locals < length (take (length inputs) room) + length c.clear.new.variables =
-        omega (arith, length-take (length inputs) room, length-drop (length inputs) room, length-take (length room - length inputs) (drop (length inputs) room)) in
+    omega (arith, length-take (length inputs) room, length-drop (length inputs) room, length-take (length room - length inputs) (drop (length inputs) room)) in
     let whole = front_of (entered inputs operands) (map unknown_of locals) room c.clear.new.variables _ _ (length inputs) (length locals) c.unknown.result front count c.clear.ensures (length-map locals unknown_of) enough in
     rw (← c.as_slice-inputs.ensures, ← c.as_slice-locals.ensures) (whole ∙ ap (λ v. entered inputs operands ++ map unknown_of locals ++ v ∷ []) c.unknown.ensures)

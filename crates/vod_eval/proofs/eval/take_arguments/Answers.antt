@@ -17,9 +17,9 @@ loop-i-preserved c =
     let done = entered (take i inputs) operands in
     let count : length done ≡ i = entered_length (take i inputs) operands ∙ omega (arith, length-take i inputs) in
     let held : c.index-room-i.result ≡ get_or room i c.index-room-i.result =
-        c.index-room-i.is ∙ ap (λ vs. get_or vs i c.index-room-i.result) c.loop-i.invariant ∙ get_behind done room i c.index-room-i.result count (omega arith) in
+    c.index-room-i.is ∙ ap (λ vs. get_or vs i c.index-room-i.result) c.loop-i.invariant ∙ get_behind done room i c.index-room-i.result count (omega arith) in
     let value : c.input_value.result ≡ input_bits input (slice_get operands i) =
-        c.input_value.ensures ∙ ap (input_bits input) (copied_map (λ e. operand c.index-room-i.result e.signed) c.at.result ∙ ap (option_map (λ e. operand c.index-room-i.result e.signed)) c.at.ensures
-        ∙ ap (λ b. option_map (λ e. operand b e.signed) (slice_get arguments i)) held ∙ sym (with_signs_get room arguments i c.index-room-i.result (omega arith))) in
+    c.input_value.ensures ∙ ap (input_bits input) (copied_map (λ e. operand c.index-room-i.result e.signed) c.at.result ∙ ap (option_map (λ e. operand c.index-room-i.result e.signed)) c.at.ensures
+    ∙ ap (λ b. option_map (λ e. operand b e.signed) (slice_get arguments i)) held ∙ sym (with_signs_get room arguments i c.index-room-i.result (omega arith))) in
     ap (λ vs. set vs i c.input_value.result) c.loop-i.invariant ∙ set_next done room i c.input_value.result count (omega arith)
     ∙ sym (ap (λ vs. vs ++ drop (i + 1) room) (entered_more inputs operands i input c.input_value.result (get_same inputs i no_size input (omega arith)) (omega arith) value))

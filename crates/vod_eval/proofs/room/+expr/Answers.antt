@@ -70,9 +70,9 @@ expr_room-returns-in-Replicate t c =
 pub expr_room-returns-in-Call : goal.expr_room-returns-in-Call
 expr_room-returns-in-Call t c =
     let r : expr_room (room_in c.args.rooms.now) c.args.e.now ≡ max (staged (map (expr_room (room_in c.args.rooms.now)) c.in-Call.arguments)) (room_in c.args.rooms.now c.in-Call.n)
-        = room_at (room_in c.args.rooms.now) c.args.e.now (SizedKind-F.Call c.in-Call.n c.in-Call.arguments) (c.in-Call.is ∙ sym (rolls-Call c.in-Call.n c.in-Call.arguments)) in
+    = room_at (room_in c.args.rooms.now) c.args.e.now (SizedKind-F.Call c.in-Call.n c.in-Call.arguments) (c.in-Call.is ∙ sym (rolls-Call c.in-Call.n c.in-Call.arguments)) in
     let s : c.staged_room.result ≡ saturated (staged (map (expr_room (room_in c.args.rooms.now)) c.in-Call.arguments))
-        = c.staged_room.ensures ∙ ap (λ es. saturated (staged (map (expr_room (room_in c.args.rooms.now)) es))) c.as_slice-in-Call.ensures in
+    = c.staged_room.ensures ∙ ap (λ es. saturated (staged (map (expr_room (room_in c.args.rooms.now)) es))) c.as_slice-in-Call.ensures in
     let m : c.max-in-Call.result ≡ max c.staged_room.result c.room_at.result = c.max-in-Call.ensures in
     let n : c.room_at.result ≡ room_in c.args.rooms.now c.in-Call.n = c.room_at.ensures in
     omega arith

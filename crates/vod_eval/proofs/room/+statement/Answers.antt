@@ -12,7 +12,7 @@ pub statement_room-returns-in-Assign : goal.statement_room-returns-in-Assign
 statement_room-returns-in-Assign t c =
     let index = λ (p : Part). index_room (room_in c.args.rooms.now) p.place in
     let r : statement_room (room_in c.args.rooms.now) c.args.statement.now ≡ max (expr_room (room_in c.args.rooms.now) c.in-Assign.right) (staged (map index c.in-Assign.parts))
-        = statement_room_at (room_in c.args.rooms.now) c.args.statement.now (Statement-F.Assign c.in-Assign.parts c.in-Assign.right) (c.in-Assign.is ∙ sym (rolls-Assign c.in-Assign.parts c.in-Assign.right)) in
+    = statement_room_at (room_in c.args.rooms.now) c.args.statement.now (Statement-F.Assign c.in-Assign.parts c.in-Assign.right) (c.in-Assign.is ∙ sym (rolls-Assign c.in-Assign.parts c.in-Assign.right)) in
     let s : c.parts_room.result ≡ saturated (staged (map index c.in-Assign.parts)) = c.parts_room.ensures ∙ ap (λ ps. saturated (staged (map index ps))) c.as_slice.ensures in
     let m : c.max.result ≡ max c.expr_room.result c.parts_room.result = c.max.ensures in
     let n : c.expr_room.result ≡ saturated (expr_room (room_in c.args.rooms.now) c.in-Assign.right) = c.expr_room.ensures in
@@ -26,7 +26,7 @@ statement_room-returns-in-If t c =
 pub statement_room-returns-in-Case : goal.statement_room-returns-in-Case
 statement_room-returns-in-Case t c =
     let r : statement_room (room_in c.args.rooms.now) c.args.statement.now ≡ max (expr_room (room_in c.args.rooms.now) c.in-Case.tested) (max (most (map (item_room_of (room_in c.args.rooms.now)) c.in-Case.items)) (statement_room (room_in c.args.rooms.now) c.in-Case.otherwise))
-        = statement_room_at (room_in c.args.rooms.now) c.args.statement.now (Statement-F.Case c.in-Case.tested c.in-Case.items c.in-Case.otherwise) (c.in-Case.is ∙ sym (rolls-Case c.in-Case.tested c.in-Case.items c.in-Case.otherwise)) in
+    = statement_room_at (room_in c.args.rooms.now) c.args.statement.now (Statement-F.Case c.in-Case.tested c.in-Case.items c.in-Case.otherwise) (c.in-Case.is ∙ sym (rolls-Case c.in-Case.tested c.in-Case.items c.in-Case.otherwise)) in
     let s : c.items_room.result ≡ saturated (most (map (item_room_of (room_in c.args.rooms.now)) c.in-Case.items)) = c.items_room.ensures ∙ ap (λ xs. saturated (most (map (item_room_of (room_in c.args.rooms.now)) xs))) c.as_slice-in-Case.ensures in
     let o : c.statement_room-in-Case.result ≡ saturated (statement_room (room_in c.args.rooms.now) c.in-Case.otherwise) = c.statement_room-in-Case.ensures ∙ ap (λ x. saturated (statement_room (room_in c.args.rooms.now) x)) c.get-in-Case.ensures in
     let n : c.expr_room-in-Case.result ≡ saturated (expr_room (room_in c.args.rooms.now) c.in-Case.tested) = c.expr_room-in-Case.ensures in
