@@ -3,3 +3,7 @@ pub mod Expr
 pub mod Netlist
 pub mod Vectors
 pub mod Names
+pub mod Values
+pub mod Eval
+pub mod Run
+pub mod Reads

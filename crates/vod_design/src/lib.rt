@@ -1,6 +1,16 @@
 //! Designs: what a simulation is of, and the vectors that drive it.
 #![tactic(auto)]
 
+mod sized;
+mod statement;
 #[cfg(test)]
 mod tests;
 pub mod thin;
+
+pub use sized::{
+    BinaryOp, ComparisonOp, LogicalOp, Named, ReductionOp, ShiftOp, SizedExpr, SizedKind, UnaryOp,
+    Variable, value_hangs_on_reads,
+};
+pub use statement::{
+    Body, CaseItem, Function, Locals, Part, PartPlace, Place, Places, Size, Statement,
+};

@@ -1,0 +1,126 @@
+-- What a statement of a function does, and the value that a call gives (IEEE 1364-2005, 9.2 to 9.5, 10.4).
+use Rattle.std.specs.Prelude.{Bool, ℕ, zero, suc, ◌+◌, ◌-◌, nat_le, ◌==◌, if◌then◌else◌, List, [], ◌∷◌, ◌++◌, length, map, take, drop, slice_get, slice_set, Option, None, Some}
+use Rattle.std.specs.List.{list_any}
+use Rattle.vod_bits.specs.Bit.{Bit, BX, is_1}
+use Rattle.vod_four.specs.Four.{truth_bit}
+use Rattle.vod_design.specs.declared.sized.ComparisonOp.TheVariants as comparison
+use Rattle.vod_design.specs.declared.sized.SizedExpr.{SizedExpr}
+use Rattle.vod_design.specs.declared.sized.Variable.{Variable}
+use Rattle.vod_design.specs.declared.sized.Variable.TheVariants.{Signal, Local}
+use Rattle.vod_design.specs.declared.statement.CaseItem.{CaseItem}
+use Rattle.vod_design.specs.declared.statement.Function.{Function}
+use Rattle.vod_design.specs.declared.statement.Part.{Part}
+use Rattle.vod_design.specs.declared.statement.PartPlace.{PartPlace}
+use Rattle.vod_design.specs.declared.statement.PartPlace.TheVariants as part
+use Rattle.vod_design.specs.declared.statement.Size.{Size}
+use Rattle.vod_design.specs.declared.statement.Statement.{Statement}
+use Rattle.vod_design.specs.declared.statement.Statement.TheOpen.{Statement-F, CaseItem-F}
+use Rattle.vod_design.specs.declared.statement.Statement.TheFolds.{fold-Statement, fold-CaseItem}
+use Rattle.vod_design.specs.Values.{Values, Frame, Operand, unknown, bounded, at_size, value_at, select_bits, index_place}
+use Rattle.vod_design.specs.Eval.{Calls, compared, operand_of}
+
+-- a place that a part of an assignment writes: bits of a variable from a place up, or a memory word
+pub data Target : Type 0 where
+  Bits : Variable → ℕ → Target
+  Word : ℕ → ℕ → Target
+
+-- the index of a part, x where it has none
+abbrev pub index_bits : (SizedExpr → Operand) → PartPlace → List Bit
+index_bits value (part.Bits x low) = BX ∷ []
+index_bits value (part.Index x least index) = (value index).bits
+index_bits value (part.Word memory least index) = (value index).bits
+
+-- the place that a part writes where its index has a value: none where a bit of it is x or z
+abbrev pub at_index : (ℕ → Target) → Option ℕ → Option Target
+at_index place None = None
+at_index place (Some n) = Some (place n)
+
+abbrev pub target_of : PartPlace → List Bit → Option Target
+target_of (part.Bits x low) index = Some (Bits x low)
+target_of (part.Index x least _) index = at_index (Bits x) (index_place least index)
+target_of (part.Word memory least _) index = at_index (Word memory) (index_place least index)
+
+-- a value with bits from a place up replaced; bits that aren't inside change nothing
+unfoldable pub replace_bits : ℕ → List Bit → List Bit → List Bit
+replace_bits low new old =
+    if nat_le (low + length new) (length old) then take (length old - (low + length new)) old ++ new ++ drop (length old - low) old else old
+
+-- what a function's variables are after bits were assigned to a place; it has no others
+abbrev pub written : Option Target → List Bit → Frame → Frame
+written None new frame = frame
+written (Some (Bits (Signal n) low)) new frame = frame
+written (Some (Bits (Local n) low)) new frame = slice_set frame n (replace_bits low new (value_at frame n))
+written (Some (Word memory place)) new frame = frame
+
+-- the parts of a left side, from the left, each with the value of its index, take their bits of a value (9.2.1)
+abbrev pub assigned : List Part → List (List Bit) → List Bit → Frame → Frame
+assigned [] indices value frame = frame
+assigned (p ∷ parts) [] value frame = frame
+assigned (p ∷ parts) (index ∷ indices) value frame =
+    assigned parts indices value (written (target_of p.place index) (select_bits p.low (bounded p.width) value) frame)
+
+-- one statement after the other
+abbrev pub in_turn : List (Frame → Frame) → Frame → Frame
+in_turn [] frame = frame
+in_turn (s ∷ ss) frame = in_turn ss (s frame)
+
+-- an item of a `case`: its labels, and what its body does
+pub record Branch : Type 0 where
+  pub labels : List SizedExpr
+  pub body : Frame → Frame
+
+-- whether a label is equal to the value, x and z included (9.5)
+abbrev pub has_label : (SizedExpr → Operand) → Operand → List SizedExpr → Bool
+has_label value tested labels = list_any (λ label. is_1 (compared comparison.CaseEqual tested (value label))) labels
+
+-- the first item with such a label, or else the last branch
+abbrev pub first_branch : (SizedExpr → Operand) → Operand → List Branch → (Frame → Frame) → Frame → Frame
+first_branch value tested [] otherwise = otherwise
+first_branch value tested (branch ∷ more) otherwise = if has_label value tested branch.labels then branch.body else first_branch value tested more otherwise
+
+-- what a statement does to a function's variables. The indices of a left side are evaluated before its parts are written
+abbrev pub effect : (Frame → SizedExpr → Operand) → Statement-F (Frame → Frame) Branch → Frame → Frame
+effect value (Statement-F.Assign parts right) frame = assigned parts (map (λ p. index_bits (value frame) p.place) parts) (value frame right).bits frame
+effect value (Statement-F.If test taken other) frame = (if is_1 (truth_bit (value frame test).bits) then taken else other) frame
+effect value (Statement-F.Case tested items otherwise) frame = first_branch (value frame) (value frame tested) items otherwise frame
+effect value (Statement-F.Begin statements) frame = in_turn statements frame
+effect value Statement-F.Empty frame = frame
+
+abbrev pub branch_of : CaseItem-F (Frame → Frame) Branch → Branch
+branch_of item = record { labels = item.labels; body = item.body }
+
+unfoldable pub run : Calls → Values → Statement → Frame → Frame
+run calls values s = fold-Statement (Frame → Frame) Branch (effect (operand_of calls values)) branch_of s
+
+unfoldable pub branch : Calls → Values → CaseItem → Branch
+branch calls values item = fold-CaseItem (Frame → Frame) Branch (effect (operand_of calls values)) branch_of item
+
+-- A function's body sees the function's variables alone: no signal and no memory word has a value there (10.4.4).
+abbrev pub nothing : Values
+nothing = record { signal = λ n. BX ∷ []; word = λ memory place. None }
+
+-- A call assigns each argument to its input (10.4.3); an input without one is x
+abbrev pub entered : List Size → List Operand → Frame
+entered [] arguments = []
+entered (input ∷ inputs) [] = unknown (bounded input.width) ∷ entered inputs []
+entered (input ∷ inputs) (a ∷ arguments) = at_size input.width a.signed a.bits ∷ entered inputs arguments
+
+-- a function's variables as it is entered: the inputs, then the locals and the result, which are x
+abbrev pub frame_of : Function → List Operand → Frame
+frame_of f arguments = entered f.inputs arguments ++ map (λ l. unknown (bounded l.width)) f.locals ++ unknown (bounded f.width) ∷ []
+
+-- the value of a call: that of the result after the body
+abbrev pub result_of : Calls → Option Function → List Operand → List Bit
+result_of calls None arguments = BX ∷ []
+result_of calls (Some f) arguments = value_at (run calls nothing f.body (frame_of f arguments)) (length f.inputs + length f.locals)
+
+-- the value of a call where the first k functions may be called: each calls those before it alone (10.4.4)
+abbrev pub call_below : List Function → ℕ → Calls
+call_below functions zero n arguments = BX ∷ []
+call_below functions (suc k) n arguments =
+    if n == k then result_of (call_below functions k) (slice_get functions k) arguments else call_below functions k n arguments
+
+-- the value of an expression, given the functions, the values of signals and memory words, and those of the variables of the
+-- function that it stands in
+unfoldable pub eval : List Function → Values → Frame → SizedExpr → List Bit
+eval functions values frame e = (operand_of (call_below functions (length functions)) values frame e).bits

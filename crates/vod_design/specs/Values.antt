@@ -1,0 +1,71 @@
+-- What an expression is evaluated over, and values at a size (IEEE 1364-2005, 5.2, 5.4).
+use Rattle.std.specs.Prelude.{ℕ, ◌+◌, ◌-◌, ◌≤◌, nat_le, min, max, Bool, ◌&&◌, if◌then◌else◌, List, [], ◌∷◌, length, replicate, slice_index_or, Option, None, Some}
+use Rattle.vod_bits.specs.Bit.{Bit, BX}
+use Rattle.vod_bits.specs.Value.{number_of, all_known, resize_bits, slice_bits}
+use Rattle.vod_bits.specs.declared.TheConstants.{WIDTH}
+use Rattle.vod_design.specs.declared.sized.Variable.{Variable}
+use Rattle.vod_design.specs.declared.sized.Variable.TheVariants.{Signal, Local}
+use Rattle.vod_design.specs.declared.sized.Named.{Named}
+use Rattle.vod_design.specs.declared.sized.Named.TheVariants as named
+
+-- the values of the signals by number, and of the memory words by memory and place, with none where there is no such word
+pub record Values : Type 0 where
+  pub signal : ℕ → List Bit
+  pub word : ℕ → ℕ → Option (List Bit)
+
+-- the values of a function's inputs, locals and result
+abbrev pub Frame : Type 0
+Frame = List (List Bit)
+
+-- an operand's value, and whether it is signed
+pub record Operand : Type 0 where
+  pub bits : List Bit
+  pub signed : Bool
+
+-- so many bits of x
+abbrev pub unknown : ℕ → List Bit
+unknown width = replicate width BX
+
+-- a size from 1 to WIDTH: the nearest to the one given
+abbrev pub bounded : ℕ → ℕ
+bounded width = max 1 (min width WIDTH)
+
+-- a value at a size: extended by its upper bit where it is signed, else by 0, or its lower bits (5.4.1, 5.5.2)
+unfoldable pub at_size : ℕ → Bool → List Bit → List Bit
+at_size width signed bits = resize_bits (bounded width) signed bits
+
+-- the value at a place of a list, x where there is none
+abbrev pub value_at : List (List Bit) → ℕ → List Bit
+value_at values n = slice_index_or values n (BX ∷ [])
+
+-- `width` bits from the place `low` up, x where they aren't inside (5.2.1)
+unfoldable pub select_bits : ℕ → ℕ → List Bit → List Bit
+select_bits low width bits = if nat_le (low + width) (length bits) then slice_bits low width bits else unknown width
+
+-- the place that an index names above the least index: none where a bit of it is x or z, or where it is below (5.2.1, 5.2.2)
+abbrev pub index_place : ℕ → List Bit → Option ℕ
+index_place least index = if all_known index && nat_le least (number_of index) then Some (number_of index - least) else None
+
+-- the value of a variable and of a name
+abbrev pub variable_bits : Values → Frame → Variable → List Bit
+variable_bits values frame (Signal n) = values.signal n
+variable_bits values frame (Local n) = value_at frame n
+
+abbrev pub named_bits : Values → Frame → Named → List Bit
+named_bits values frame (named.Variable x) = variable_bits values frame x
+named_bits values frame (named.Constant bits) = bits
+
+-- the bit at a place, x where there is none
+abbrev pub bit_at_place : List Bit → Option ℕ → List Bit
+bit_at_place bits None = BX ∷ []
+bit_at_place bits (Some place) = select_bits place 1 bits
+
+-- a memory word at a size, x in each bit where there is none
+abbrev pub word_or_x : ℕ → Option (List Bit) → List Bit
+word_or_x width None = unknown width
+word_or_x width (Some bits) = bits
+
+-- the memory word at a place, or none
+abbrev pub word_at : Values → ℕ → Option ℕ → Option (List Bit)
+word_at values memory None = None
+word_at values memory (Some place) = values.word memory place

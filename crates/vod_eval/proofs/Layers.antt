@@ -1,0 +1,85 @@
+-- What the folds over expressions and statements give where one layer stands open.
+use Rattle.std.proofs.Common.{◌≡◌, ℕ, suc, max, Bool, cond, List, ◌∷◌, map, ap, ◌∙◌}
+use Rattle.vod_bits.specs.Bit.{Bit}
+use Rattle.vod_design.specs.declared.sized.SizedExpr.{SizedExpr}
+use Rattle.vod_design.specs.declared.sized.SizedKind.{SizedKind}
+use Rattle.vod_design.specs.declared.sized.SizedKind.TheOpen.{SizedKind-F, SizedExpr-F}
+use Rattle.vod_design.specs.declared.sized.SizedKind.TheFolds.{fold-SizedExpr, fold-SizedKind, map-SizedKind, fold-roll-SizedKind, fold_out-SizedExpr}
+use Rattle.vod_design.specs.declared.sized.SizedKind.TheViews.{roll-SizedKind}
+use Rattle.vod_design.specs.Values.{Values, Frame, Operand, at_size}
+use Rattle.vod_design.specs.Eval.{Calls, kind_bits, sized_operand, operand_of}
+use Rattle.vod_design.specs.declared.statement.CaseItem.{CaseItem}
+use Rattle.vod_design.specs.declared.statement.Statement.{Statement}
+use Rattle.vod_design.specs.declared.statement.Statement.TheOpen.{Statement-F}
+use Rattle.vod_design.specs.declared.statement.Statement.TheFolds.{fold-Statement, fold-CaseItem, map-Statement, fold-roll-Statement, fold_out-CaseItem}
+use Rattle.vod_design.specs.declared.statement.Statement.TheViews.{roll-Statement}
+use Rattle.vod_design.specs.Run.{Branch, has_label, first_branch, effect, branch_of, run, branch}
+use Rattle.vod_eval.specs.Room.{kind_room, expr_room, most, effect_room, item_room, statement_room, item_room_of}
+use Rattle.vod_eval.proofs.Depth.{kind_depth, depth, effect_depth, item_step, statement_depth, item_depth}
+
+-- one layer of an expression's kind
+abbrev pub Layer : Type 0
+Layer = SizedKind-F SizedKind SizedExpr
+
+pub depth_at : (e : SizedExpr) (x : Layer) → e.kind ≡ roll-SizedKind x → depth e ≡ suc (kind_depth (map-SizedKind SizedKind SizedExpr ℕ ℕ (fold-SizedKind ℕ ℕ kind_depth (λ e. suc e.kind)) depth x))
+unfolding depth
+depth_at e x is = fold_out-SizedExpr ℕ ℕ kind_depth (λ e. suc e.kind) e ∙ ap (λ k. suc (fold-SizedKind ℕ ℕ kind_depth (λ e. suc e.kind) k)) is ∙ ap suc (fold-roll-SizedKind ℕ ℕ kind_depth (λ e. suc e.kind) x)
+
+pub room_at : (calls : ℕ → ℕ) (e : SizedExpr) (x : Layer) → e.kind ≡ roll-SizedKind x
+    → expr_room calls e ≡ kind_room calls (map-SizedKind SizedKind SizedExpr ℕ ℕ (fold-SizedKind ℕ ℕ (kind_room calls) (λ e. e.kind)) (expr_room calls) x)
+unfolding expr_room
+room_at calls e x is = fold_out-SizedExpr ℕ ℕ (kind_room calls) (λ e. e.kind) e ∙ ap (λ k. fold-SizedKind ℕ ℕ (kind_room calls) (λ e. e.kind) k) is ∙ fold-roll-SizedKind ℕ ℕ (kind_room calls) (λ e. e.kind) x
+
+pub value_at_kind : (calls : Calls) (values : Values) (frame : Frame) (e : SizedExpr) (x : Layer) → e.kind ≡ roll-SizedKind x
+    → (operand_of calls values frame e).bits ≡ at_size e.width e.signed (kind_bits calls values frame (map-SizedKind SizedKind SizedExpr (ℕ → Bool → List Bit) Operand (fold-SizedKind (ℕ → Bool → List Bit) Operand (kind_bits calls values frame) sized_operand) (operand_of calls values frame) x) e.width e.signed)
+unfolding operand_of
+value_at_kind calls values frame e x is =
+    ap (λ (o : Operand). o.bits) (fold_out-SizedExpr (ℕ → Bool → List Bit) Operand (kind_bits calls values frame) sized_operand e)
+    ∙ ap (λ k. at_size e.width e.signed (fold-SizedKind (ℕ → Bool → List Bit) Operand (kind_bits calls values frame) sized_operand k e.width e.signed)) is
+    ∙ ap (λ (v : ℕ → Bool → List Bit). at_size e.width e.signed (v e.width e.signed)) (fold-roll-SizedKind (ℕ → Bool → List Bit) Operand (kind_bits calls values frame) sized_operand x)
+
+pub sign_of : (calls : Calls) (values : Values) (frame : Frame) (e : SizedExpr) → (operand_of calls values frame e).signed ≡ e.signed
+unfolding operand_of
+sign_of calls values frame e = ap (λ (o : Operand). o.signed) (fold_out-SizedExpr (ℕ → Bool → List Bit) Operand (kind_bits calls values frame) sized_operand e)
+
+-- one layer of a statement
+abbrev pub StatementLayer : Type 0
+StatementLayer = Statement-F Statement CaseItem
+
+pub statement_depth_at : (s : Statement) (x : StatementLayer) → s ≡ roll-Statement x → statement_depth s ≡ effect_depth (map-Statement Statement CaseItem ℕ ℕ statement_depth item_depth x)
+unfolding statement_depth item_depth
+statement_depth_at s x is = ap (fold-Statement ℕ ℕ effect_depth item_step) is ∙ fold-roll-Statement ℕ ℕ effect_depth item_step x
+
+pub statement_room_at : (calls : ℕ → ℕ) (s : Statement) (x : StatementLayer) → s ≡ roll-Statement x
+    → statement_room calls s ≡ effect_room calls (map-Statement Statement CaseItem ℕ ℕ (statement_room calls) (item_room_of calls) x)
+unfolding statement_room item_room_of
+statement_room_at calls s x is = ap (fold-Statement ℕ ℕ (effect_room calls) (item_room calls)) is ∙ fold-roll-Statement ℕ ℕ (effect_room calls) (item_room calls) x
+
+pub run_at : (calls : Calls) (values : Values) (frame : Frame) (s : Statement) (x : StatementLayer) → s ≡ roll-Statement x
+    → run calls values s frame ≡ effect (operand_of calls values) (map-Statement Statement CaseItem (Frame → Frame) Branch (run calls values) (branch calls values) x) frame
+unfolding run branch
+run_at calls values frame s x is =
+    ap (λ s. fold-Statement (Frame → Frame) Branch (effect (operand_of calls values)) branch_of s frame) is
+    ∙ ap (λ (f : Frame → Frame). f frame) (fold-roll-Statement (Frame → Frame) Branch (effect (operand_of calls values)) branch_of x)
+
+pub item_depth_at : (item : CaseItem) → item_depth item ≡ max (most (map depth item.labels)) (statement_depth item.body)
+unfolding statement_depth item_depth
+item_depth_at item = fold_out-CaseItem ℕ ℕ effect_depth item_step item
+
+pub item_room_at : (calls : ℕ → ℕ) (item : CaseItem) → item_room_of calls item ≡ max (most (map (expr_room calls) item.labels)) (statement_room calls item.body)
+unfolding statement_room item_room_of
+item_room_at calls item = fold_out-CaseItem ℕ ℕ (effect_room calls) (item_room calls) item
+
+abbrev pub branch_with : List SizedExpr → (Frame → Frame) → Branch
+branch_with labels body = record { labels = labels; body = body }
+
+pub branch_at : (calls : Calls) (values : Values) (item : CaseItem) → branch calls values item ≡ branch_with item.labels (run calls values item.body)
+unfolding run branch
+branch_at calls values item = fold_out-CaseItem (Frame → Frame) Branch (effect (operand_of calls values)) branch_of item
+
+-- the first branch, or what the rest gives
+pub first_at : (value : SizedExpr → Operand) (tested : Operand) (calls : Calls) (values : Values) (item : CaseItem) (next : List Branch) (otherwise : Frame → Frame) (b : Bool)
+    → has_label value tested item.labels ≡ b → first_branch value tested (branch calls values item ∷ next) otherwise ≡ cond b (run calls values item.body) (first_branch value tested next otherwise)
+first_at value tested calls values item next otherwise b h =
+    ap (λ x. first_branch value tested (x ∷ next) otherwise) (branch_at calls values item)
+    ∙ ap (λ t. cond t (run calls values item.body) (first_branch value tested next otherwise)) h

@@ -1,0 +1,7 @@
+pub mod Cuts
+pub mod Depth
+pub mod Layers
+pub mod Lists
+pub mod Callable
+pub mod Enter
+pub mod Tables

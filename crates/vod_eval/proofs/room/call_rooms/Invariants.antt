@@ -1,0 +1,7 @@
+use Rattle.std.proofs.Common.{◌≡◌}
+use Rattle.vod_eval.specs.Room.{call_room}
+use Rattle.vod_eval.proofs.Tables.{table_of}
+use Rattle.vod_eval.proofs.room.call_rooms.Given as goal
+
+abbrev pub invariant-loop-function : goal.invariant-loop-function
+invariant-loop-function l = l.rooms.items ≡ table_of l.functions l.function-index

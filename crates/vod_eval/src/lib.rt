@@ -1,0 +1,13 @@
+//! The value of a sized expression, as the definition *eval* of `vod_design` gives it. Nothing here takes memory: the variables
+//! of functions that are called stand in room that the caller hands in.
+#![tactic(auto)]
+
+mod bits;
+mod eval;
+mod ops;
+mod room;
+#[cfg(test)]
+mod tests;
+
+pub use eval::value_of;
+pub use room::{call_rooms, expr_room, statement_room};
