@@ -21,8 +21,8 @@ mod updates;
 mod waiting;
 
 use crate::agenda::Agenda;
-use crate::fanout::Listeners;
 pub use crate::event::Event;
+use crate::fanout::Listeners;
 pub use crate::orders::{inputs_take_moves, orders_agree, orders_end};
 use std::alloc::{AllocError, Global};
 use std::marker::Model;
