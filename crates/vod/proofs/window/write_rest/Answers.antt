@@ -56,7 +56,7 @@ loop-vector-preserved g c =
       design = c.run_slot.ensures.design ∙ kept.design;
       awaits = subst (λ (d : Netlist). Awaits d u c.in-Some.behind.now) kept.design
           (c.run_slot.ensures.awaits c.in-Some.behind.now (subst (λ (d : Netlist). Awaits d t (c.in-Some.vector.now ∷ c.in-Some.behind.now)) (sym kept.design)
-            (subst (λ (r : List Vector). Awaits c.args.queue.now.design t r) c.in-Some.ensures.1 kept.awaits)));
+          (subst (λ (r : List Vector). Awaits c.args.queue.now.design t r) c.in-Some.ensures.1 kept.awaits)));
       shown = ap (λ p. p.shown) shown ∙ c.values.ensures.values;
       signals = ap (λ p. p.signals) shown ∙ kept.signals;
       follows = subst (λ w. Follows c.args.queue.now.design c.args.queue.now.state c.args.writer.now.printed c.args.vectors.now c.args.to (g.K.Sink.taken c.args.out.now) u w c.in-Some.behind.now now) printed more;
