@@ -27,7 +27,7 @@ abbrev pub ThinApart : Type 0
 ThinApart = (source : List ℕ) (d : Netlist) (p : ℕ) → thin.IsThin source d → thin.IsRefused source false p → ⊥
 
 abbrev pub PlainNames : Type 0
-PlainNames = (source : List ℕ) (d : Netlist) → thin.IsThin source d → HasPlainNames d
+PlainNames = (source : List ℕ) (d : Netlist) → length source ≤ 2 ^ 20 → thin.IsThin source d → HasPlainNames d
 
 abbrev pub OneLine : Type 0
 OneLine = (d : Netlist) → HasPlainNames d → (bytes : List ℕ) (line other : ℕ) → script.IsRefused d bytes line → script.IsRefused d bytes other → line ≡ other
@@ -45,6 +45,6 @@ one_answer designs places apart plain lines unread = record {
   design = λ source d e a b. designs source d e a.thin b.thin;
   place = λ source p q. places (take (2 ^ 20) source) (nat_lt (2 ^ 20) (length source)) p q;
   apart = λ source d p is refused. apart source d p is.thin (whole source d p is refused);
-  line = λ source d text k l is. lines d (plain source d is.thin) text k l;
-  unread = λ source d text k vs is. unread d (plain source d is.thin) text k vs;
+  line = λ source d text k l is. lines d (plain source d is.short is.thin) text k l;
+  unread = λ source d text k vs is. unread d (plain source d is.short is.thin) text k vs;
 }
