@@ -1,25 +1,30 @@
--- The value of an expression and the signals that it reads (IEEE 1364-2005, 5.1).
-use Rattle.std.specs.Prelude.{ℕ, List, [], ◌∷◌, if◌then◌else◌}
+-- The value of an expression and the signals that it reads (IEEE 1364-2005, 5.1), each from those of its operands.
+use Rattle.std.specs.Prelude.{ℕ, List, [], ◌∷◌, ◌++◌}
 use Rattle.vod_design.specs.declared.thin.Bit.{Bit}
-use Rattle.vod_design.specs.declared.thin.Operand.{Operand}
-use Rattle.vod_design.specs.declared.thin.Expr.{Expr}
-use Rattle.vod_design.specs.declared.thin.Expr.TheVariants.{Plain, And, Or, Xor}
-use Rattle.vod_design.specs.Bits.{not_bit, and_bit, or_bit, xor_bit}
+use Rattle.vod_design.specs.declared.thin.Expr.{Expr, fold-Expr}
+use Rattle.vod_design.specs.declared.thin.Expr.TheOpen.{Expr-F, Signal, Not, And, Xor, Or}
+use Rattle.vod_design.specs.Bits.{not_bit, and_bit, xor_bit, or_bit}
 
--- the value of `NAME` or `~NAME` where the signals have the given values
-abbrev pub operand_value : Operand → (ℕ → Bit) → Bit
-operand_value operand values = if operand.inverted then not_bit (values operand.signal) else values operand.signal
+-- the value of an operator, or of a signal, where the signals have the given values
+abbrev pub value_step : (ℕ → Bit) → Expr-F Bit → Bit
+value_step values (Signal s) = values s
+value_step values (Not a) = not_bit a
+value_step values (And a b) = and_bit a b
+value_step values (Xor a b) = xor_bit a b
+value_step values (Or a b) = or_bit a b
 
 -- the value of an expression where the signals have the given values
 unfoldable pub value_of : Expr → (ℕ → Bit) → Bit
-value_of (Plain a) values = operand_value a values
-value_of (And a b) values = and_bit (operand_value a values) (operand_value b values)
-value_of (Or a b) values = or_bit (operand_value a values) (operand_value b values)
-value_of (Xor a b) values = xor_bit (operand_value a values) (operand_value b values)
+value_of e values = fold-Expr Bit (value_step values) e
 
--- the signals that an expression reads
+-- the signals that an operator's operands read
+abbrev pub reads_step : Expr-F (List ℕ) → List ℕ
+reads_step (Signal s) = s ∷ []
+reads_step (Not a) = a
+reads_step (And a b) = a ++ b
+reads_step (Xor a b) = a ++ b
+reads_step (Or a b) = a ++ b
+
+-- the signals that an expression reads, from the left
 unfoldable pub reads : Expr → List ℕ
-reads (Plain a) = a.signal ∷ []
-reads (And a b) = a.signal ∷ b.signal ∷ []
-reads (Or a b) = a.signal ∷ b.signal ∷ []
-reads (Xor a b) = a.signal ∷ b.signal ∷ []
+reads e = fold-Expr (List ℕ) reads_step e

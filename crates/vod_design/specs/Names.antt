@@ -1,11 +1,11 @@
 -- The names by which a script gives inputs their values.
 use Rattle.std.specs.Prelude.{◌≢◌, ℕ, ◌==◌, ◌||◌, Bool, not, List, [], map, All, AllPairs, IsTrue, slice_index_or}
 use Rattle.std.specs.List.{list_all}
-use Rattle.vod_design.specs.Netlist.{Netlist}
+use Rattle.vod_design.specs.Netlist.{Netlist, input_signals}
 
 -- the names of the inputs, by input number
 abbrev pub input_names : Netlist → List (List ℕ)
-input_names d = map (λ s. slice_index_or (map (λ signal. signal.name) d.signals) s []) d.inputs
+input_names d = map (λ s. slice_index_or (map (λ signal. signal.name) d.signals) s []) (input_signals d)
 
 -- a name without `=`, space and LF
 abbrev pub is_plain : List ℕ → Bool

@@ -1,5 +1,6 @@
 //! The operators on all pairs of bits, as the tables of IEEE 1364-2005, 5.1.10 have them.
-use crate::thin::{Bit, Expr, Name, Operand};
+use crate::thin::{Bit, Expr, Name};
+use sqlite_items::Boxed;
 use std::test::Fail;
 
 /// The bit of a digit.
@@ -36,26 +37,43 @@ fn inverted(rt: HostRuntime) {
     }
 }
 
-/// `NAME` or `~NAME` of a signal.
-fn operand(signal: u32, inverted: bool) -> Operand {
-    Operand { signal, inverted }
+fn signal(rt: HostRuntime, signal: u32) -> Result<Boxed<Expr>, Fail> {
+    Ok(Boxed::new(rt.alloc(), Expr::Signal(signal))?)
+}
+
+/// The value of an expression where signal 0 is 1, signal 1 is 0 and signal 2 is z.
+fn value(expr: Expr) -> Bit {
+    expr.value([Bit::One, Bit::Zero, Bit::Z].as_slice())
 }
 
 #[test]
-fn values(rt: HostRuntime) {
-    let values = [Bit::One, Bit::Zero, Bit::Z];
-    let table = [
-        (Expr::Plain(operand(2, false)), Bit::Z),
-        (Expr::Plain(operand(2, true)), Bit::X),
-        (Expr::And(operand(0, false), operand(1, true)), Bit::One),
-        (Expr::Or(operand(0, true), operand(1, false)), Bit::Zero),
-        (Expr::Xor(operand(0, false), operand(1, false)), Bit::One),
-        (Expr::Xor(operand(0, false), operand(2, false)), Bit::X),
-        (Expr::Plain(operand(3, false)), Bit::X),
-    ];
-    for (expr, value) in table {
-        assert_eq!(rt; expr.value(values.as_slice()), value);
-    }
+fn signals(rt: HostRuntime) {
+    assert_eq!(rt; value(Expr::Signal(0)), Bit::One);
+    assert_eq!(rt; value(Expr::Signal(2)), Bit::Z);
+    assert_eq!(rt; value(Expr::Signal(3)), Bit::X);
+}
+
+#[test]
+fn operators(rt: HostRuntime) -> Result<(), Fail> {
+    let inverted = Expr::Not(signal(rt, 1)?);
+    assert_eq!(rt; value(inverted), Bit::One);
+    let both = Expr::And(signal(rt, 0)?, signal(rt, 1)?);
+    assert_eq!(rt; value(both), Bit::Zero);
+    let either = Expr::Or(signal(rt, 1)?, signal(rt, 0)?);
+    assert_eq!(rt; value(either), Bit::One);
+    let one_of = Expr::Xor(signal(rt, 0)?, signal(rt, 2)?);
+    assert_eq!(rt; value(one_of), Bit::X);
+    Ok(())
+}
+
+/// `~(a & ~b) | b` of signals 0 and 1.
+#[test]
+fn nested(rt: HostRuntime) -> Result<(), Fail> {
+    let right = Boxed::new(rt.alloc(), Expr::Not(signal(rt, 1)?))?;
+    let and = Boxed::new(rt.alloc(), Expr::And(signal(rt, 0)?, right))?;
+    let left = Boxed::new(rt.alloc(), Expr::Not(and))?;
+    assert_eq!(rt; value(Expr::Or(left, signal(rt, 1)?)), Bit::Zero);
+    Ok(())
 }
 
 #[test]

@@ -1,8 +1,10 @@
-//! The thin design: signals of one bit, and drivers over `~ & | ^` of at most two operands.
-ghost use Rattle.std.specs.Prelude.{◌≡◌, ℕ, All};
+//! The thin design: signals of one bit, drivers and clocked blocks over `~ & ^ |`.
+ghost use Rattle.std.specs.Prelude.{◌≡◌, ℕ, ◌∷◌, ◌++◌, [], All};
 ghost use Rattle.vod_design.specs.Bits.{not_bit, and_bit, or_bit, xor_bit, value_at};
-ghost use Rattle.vod_design.specs.Expr.{operand_value, value_of, reads};
+ghost use Rattle.vod_design.specs.Expr.{value_of, reads};
+ghost use Rattle.vod_design.specs.declared.thin.Expr.TheVariants as e;
 
+use sqlite_items::Boxed;
 use std::marker::Model;
 
 /// A bit of a four-state value: 0, 1, x or z (IEEE 1364-2005, 4.1).
@@ -104,26 +106,39 @@ impl Name {
     }
 }
 
-/// A signal, which is a net of one bit.
+/// A signal of one bit: a net, or a register (IEEE 1364-2005, 4.2).
 #[derive(Debug, Drop)]
 pub struct Signal {
     pub name: Name,
+    pub register: bool,
 }
 
-/// `NAME` or `~NAME`: a signal's number, and whether its value is inverted.
+/// What an input is for: blocks wait for edges of clocks and read data.
+#[derive(Clone, Copy, Debug, PartialEq, Eq)]
+pub enum Class {
+    Clock,
+    Data,
+}
+
+/// An input: the number of its signal, and its class.
 #[derive(Clone, Copy, Debug)]
-pub struct Operand {
+pub struct Input {
     pub signal: u32,
-    pub inverted: bool,
+    pub class: Class,
 }
 
-/// The right side of a driver.
-#[derive(Clone, Copy, Debug)]
+/// An expression over signals, by their numbers (IEEE 1364-2005, 5.1.10).
+#[derive(Debug, Drop)]
 pub enum Expr {
-    Plain(Operand),
-    And(Operand, Operand),
-    Or(Operand, Operand),
-    Xor(Operand, Operand),
+    Signal(u32),
+    /// `~`
+    Not(Boxed<Expr>),
+    /// `&`
+    And(Boxed<Expr>, Boxed<Expr>),
+    /// `^`
+    Xor(Boxed<Expr>, Boxed<Expr>),
+    /// `|`
+    Or(Boxed<Expr>, Boxed<Expr>),
 }
 
 /// The value at a place of a list of values, x where there is none.
@@ -133,15 +148,6 @@ fn at(values: &[Bit], signal: u32) -> Bit
     values.get(signal as usize).copied().unwrap_or(Bit::X)
 }
 
-impl Operand {
-    fn value(&self, values: &[Bit]) -> Bit
-        ensures { result ≡ operand_value self.now (value_at values.now) }
-    {
-        let value = at(values, self.signal);
-        if self.inverted { value.not() } else { value }
-    }
-}
-
 impl Expr {
     /// The value of the expression where the signals have these values.
     #[tactic(auto, unfolding(crate::specs::Expr::value_of))]
@@ -149,13 +155,23 @@ impl Expr {
         ensures { result ≡ value_of self.now (value_at values.now) }
     {
         match self {
-            Expr::Plain(a) => a.value(values),
-            Expr::And(a, b) => a.value(values).and(b.value(values)),
-            Expr::Or(a, b) => a.value(values).or(b.value(values)),
-            Expr::Xor(a, b) => a.value(values).xor(b.value(values)),
+            Expr::Signal(signal) => at(values, *signal),
+            Expr::Not(a) => a.get().value(values).not(),
+            Expr::And(a, b) => a.get().value(values).and(b.get().value(values)),
+            Expr::Xor(a, b) => a.get().value(values).xor(b.get().value(values)),
+            Expr::Or(a, b) => a.get().value(values).or(b.get().value(values)),
         }
     }
 }
+
+/// The value of an expression and the signals that it reads, by its operands.
+pub fn expr_by_operands()
+    ensures signal { (u : ℕ → Bit) (s : ℕ) → (value_of (e.Signal s) u ≡ u s) × (reads (e.Signal s) ≡ s ∷ []) }
+    ensures inverted { (u : ℕ → Bit) (a : Expr) → (value_of (e.Not a) u ≡ not_bit (value_of a u)) × (reads (e.Not a) ≡ reads a) }
+    ensures and { (u : ℕ → Bit) (a b : Expr) → (value_of (e.And a b) u ≡ and_bit (value_of a u) (value_of b u)) × (reads (e.And a b) ≡ reads a ++ reads b) }
+    ensures xor { (u : ℕ → Bit) (a b : Expr) → (value_of (e.Xor a b) u ≡ xor_bit (value_of a u) (value_of b u)) × (reads (e.Xor a b) ≡ reads a ++ reads b) }
+    ensures or { (u : ℕ → Bit) (a b : Expr) → (value_of (e.Or a b) u ≡ or_bit (value_of a u) (value_of b u)) × (reads (e.Or a b) ≡ reads a ++ reads b) }
+{}
 
 /// An expression's value hangs on what it reads alone.
 pub fn value_hangs_on_reads()
@@ -163,53 +179,77 @@ pub fn value_hangs_on_reads()
 {}
 
 /// A continuous assignment: the number of its target, and its right side (IEEE 1364-2005, 6.1).
-#[derive(Clone, Copy, Debug)]
+#[derive(Debug, Drop)]
 pub struct Driver {
     pub target: u32,
     pub value: Expr,
 }
 
-/// An accepted design: a module's name, its signals by declaration, the signals that are inputs
-/// in the order of the port list, and its drivers by source order.
+/// `always @(posedge clock) register <= value;` with the numbers of its signals
+/// (IEEE 1364-2005, 9.2.2 and 9.9.2).
+#[derive(Debug, Drop)]
+pub struct Block {
+    pub clock: u32,
+    pub register: u32,
+    pub value: Expr,
+}
+
+/// The value that a register is declared with (IEEE 1364-2005, 6.2.1).
+#[derive(Clone, Copy, Debug)]
+pub struct Initial {
+    pub register: u32,
+    pub value: Bit,
+}
+
+/// The parts of a design: a module's name, its signals by declaration, its inputs in the order of
+/// the port list, its drivers and blocks by source order, and its registers' initial values by
+/// declaration.
+#[derive(Debug, Drop)]
+pub struct Parts {
+    pub name: Name,
+    pub signals: Vec<Signal>,
+    pub inputs: Vec<Input>,
+    pub drivers: Vec<Driver>,
+    pub blocks: Vec<Block>,
+    pub initials: Vec<Initial>,
+}
+
+/// An accepted design: parts that keep the rules.
 #[derive(Debug, Drop)]
 pub struct Design {
-    name: Name,
-    signals: Vec<Signal>,
-    inputs: Vec<u32>,
-    drivers: Vec<Driver>,
+    parts: Parts,
 }
 
 impl Model for Design {
-    ghost use Rattle.vod_design.specs.Netlist.{Netlist, IsAccepted};
+    ghost use Rattle.vod_design.specs.Netlist.{Netlist, IsAccepted, netlist_of};
+    ghost use Rattle.vod_design.specs.contracts.thin.Expr as e;
+    ghost use Rattle.std.specs.Coded.{codes};
 
     ghost Value = { Netlist };
 
-    ghost view = { λ a. record { name = a.name; signals = a.signals.items; inputs = a.inputs.items; drivers = a.drivers.items } };
+    ghost coded = { Prim.hlevel (codes, e.the_row.coded) };
 
-    ghost invariant = { λ a. IsAccepted (record { name = a.name; signals = a.signals.items; inputs = a.inputs.items; drivers = a.drivers.items }) };
+    ghost view = { λ a. netlist_of a.parts };
+
+    ghost invariant = { λ a. IsAccepted (netlist_of a.parts) };
 }
 
 impl Design {
-    ghost use Rattle.vod_design.specs.Netlist.{Netlist, IsAccepted};
+    ghost use Rattle.vod_design.specs.Netlist.{IsAccepted, netlist_of};
 
     /// A design of these parts, which keep its rules; it takes no memory.
-    pub fn of(name: Name, signals: Vec<Signal>, inputs: Vec<u32>, drivers: Vec<Driver>) -> Design
-        requires { IsAccepted (record { name = name; signals = signals.items; inputs = inputs.items; drivers = drivers.items }) }
-        ensures { result ≡ record { name = name; signals = signals.items; inputs = inputs.items; drivers = drivers.items } }
+    pub fn of(parts: Parts) -> Design
+        requires { IsAccepted (netlist_of parts) }
+        ensures { result ≡ netlist_of parts }
     {
-        Design {
-            name,
-            signals,
-            inputs,
-            drivers,
-        }
+        Design { parts }
     }
 
     /// The module's name.
     pub fn name(&self) -> &[u8]
         ensures { result.now ≡ self.now.name }
     {
-        self.name.as_slice()
+        self.parts.name.as_slice()
     }
 
     /// The signals, by number.
@@ -217,15 +257,15 @@ impl Design {
         ensures items { result.now ≡ self.now.signals }
         ensures accepted { IsAccepted self.now }
     {
-        self.signals.as_slice()
+        self.parts.signals.as_slice()
     }
 
-    /// The signal of each input, by input number.
-    pub fn inputs(&self) -> &[u32]
+    /// The inputs, by number.
+    pub fn inputs(&self) -> &[Input]
         ensures items { result.now ≡ self.now.inputs }
         ensures accepted { IsAccepted self.now }
     {
-        self.inputs.as_slice()
+        self.parts.inputs.as_slice()
     }
 
     /// The drivers, by number: none reads what a later one, or itself, drives.
@@ -233,7 +273,23 @@ impl Design {
         ensures items { result.now ≡ self.now.drivers }
         ensures accepted { IsAccepted self.now }
     {
-        self.drivers.as_slice()
+        self.parts.drivers.as_slice()
+    }
+
+    /// The blocks, by number: no register is assigned in two of them.
+    pub fn blocks(&self) -> &[Block]
+        ensures items { result.now ≡ self.now.blocks }
+        ensures accepted { IsAccepted self.now }
+    {
+        self.parts.blocks.as_slice()
+    }
+
+    /// The initial values, one for each register.
+    pub fn initials(&self) -> &[Initial]
+        ensures items { result.now ≡ self.now.initials }
+        ensures accepted { IsAccepted self.now }
+    {
+        self.parts.initials.as_slice()
     }
 }
 

@@ -2,18 +2,14 @@
 use Rattle.std.proofs.Common.{◌≡◌, ℕ, zero, suc, ◌<◌, ◌≤◌, ◌+◌, ◌^◌, arith, List, [], ◌∷◌, ◌++◌, length, get_or, refl, sym, ap, ◌∙◌, subst, IsTrue, All, inl, inr, length-append}
 use Rattle.std.proofs.lemmas.Bool.{cases_lt}
 use Rattle.std.proofs.lemmas.List.{map-append, length-map, get_or_push}
-use Rattle.std.proofs.lemmas.List.Elements.{All-push}
-use Rattle.std.proofs.lemmas.Grind.{get_or_default_zero}
+use Rattle.std.proofs.lemmas.List.Elements.{All-push, All-nil, All-cons, All-head, All-tail}
 use Rattle.std.proofs.Math.ListN.{get_or-append}
 use Rattle.std.proofs.Math.Seq.{get_or-append_seam}
-use Rattle.std.specs.List.{list_all, enumerate_from}
 use Rattle.std.specs.List.Sorted.{IsStrictlyIncreasing}
 use Rattle.vod_design.specs.declared.thin.Move.{Move}
 use Rattle.vod_design.specs.declared.thin.Vector.{Vector}
-use Rattle.vod_design.specs.Netlist.{Netlist, has}
-use Rattle.vod_design.specs.Vectors.{IsVector, IsLawful, assigned, times, gives_all, last_time, last_time_after}
-use Rattle.vod_thin_script.specs.Reading.{AreLastTimes}
-use Rattle.vod_thin_script.proofs.Once.{and_both}
+use Rattle.vod_design.specs.Netlist.{Netlist}
+use Rattle.vod_design.specs.Vectors.{IsVector, IsLawful, AreUnmixed, is_unmixed, times, has_data, gives_data, last_time, last_time_after}
 
 -- the last time stands last
 last_is : (t : ℕ) (vs : List Vector) (k : ℕ) → k + 1 ≡ length vs → last_time_after t vs ≡ get_or (times vs) k 0
@@ -36,14 +32,40 @@ times-append vs ws = map-append (λ (v : Vector). v.time) vs ws
 times-length : (vs : List Vector) → length (times vs) ≡ length vs
 times-length vs = length-map vs _
 
--- lawful vectors and one more, which is later, in form, and assigns every input where it is the first
+-- all that some vectors assign, behind some assignments
+abbrev pub given : List Move → List Vector → List Move
+given before [] = before
+given before (v ∷ vs) = given (before ++ v.moves) vs
+
+pub given-push : (before : List Move) (vs : List Vector) (v : Vector) → given before (vs ++ v ∷ []) ≡ given before vs ++ v.moves
+given-push before [] v = refl
+given-push before (w ∷ vs) v = given-push (before ++ w.moves) vs v
+
+unmixed_push : (d : Netlist) (before : List Move) (vs : List Vector) (v : Vector) → AreUnmixed d before vs → IsTrue (is_unmixed d (given before vs) v.moves) → AreUnmixed d before (vs ++ v ∷ [])
+unmixed_push d before [] v all one = (one, tt)
+unmixed_push d before (w ∷ vs) v all one = (all.0, unmixed_push d (before ++ w.moves) vs v all.1 one)
+
+unmixed_at : (d : Netlist) (before : List Move) (vs : List Vector) (v : Vector) → AreUnmixed d before (vs ++ v ∷ []) → IsTrue (is_unmixed d (given before vs) v.moves)
+unmixed_at d before [] v all = all.0
+unmixed_at d before (w ∷ vs) v all = unmixed_at d (before ++ w.moves) vs v all.1
+
+unmixed_front : (d : Netlist) (before : List Move) (vs ws : List Vector) → AreUnmixed d before (vs ++ ws) → AreUnmixed d before vs
+unmixed_front d before [] ws all = tt
+unmixed_front d before (v ∷ vs) ws all = (all.0, unmixed_front d (before ++ v.moves) vs ws all.1)
+
+-- whether a vector may be the first
+abbrev pub MayOpen : Netlist → Vector → Type 0
+MayOpen d v = IsTrue (has_data d) → IsTrue (gives_data d v.moves)
+
+-- lawful vectors and one more, which is later, in form, assigns all data and no clock where it is the first, and mixes nothing
 pub lawful_push : (d : Netlist) (vs : List Vector) (v : Vector) (last : ℕ) → last ≡ last_time vs → IsLawful d vs → last < v.time → v.time < 2 ^ 63 → IsVector d v
-    → (vs ≡ [] → IsTrue (gives_all d v.moves)) → IsLawful d (vs ++ v ∷ [])
-lawful_push d vs v last is h later within form complete = record {
+    → (vs ≡ [] → MayOpen d v) → IsTrue (is_unmixed d (given [] vs) v.moves) → IsLawful d (vs ++ v ∷ [])
+lawful_push d vs v last is h later within form complete apart = record {
   rising = subst IsStrictlyIncreasing (sym (times-append vs (v ∷ []))) rising;
   within = subst (All (λ t. (1 ≤ t) × (t < 2 ^ 63))) (sym (times-append vs (v ∷ []))) (All-push (λ t. (1 ≤ t) × (t < 2 ^ 63)) (times vs) v.time h.within (omega arith, within));
   forms = All-push (IsVector d) vs v h.forms form;
   first = first vs h.first complete;
+  unmixed = unmixed_push d [] vs v h.unmixed apart;
 }
   where
     rising : IsStrictlyIncreasing (times vs ++ v.time ∷ [])
@@ -61,10 +83,10 @@ lawful_push d vs v last is h later within form complete = record {
               omega arith)
         ]
 
-    first : (vs : List Vector) → ((w : Vector) (rest : List Vector) → vs ≡ w ∷ rest → IsTrue (gives_all d w.moves)) → (vs ≡ [] → IsTrue (gives_all d v.moves))
-        → (w : Vector) (rest : List Vector) → vs ++ v ∷ [] ≡ w ∷ rest → IsTrue (gives_all d w.moves)
-    first [] given all w rest e = (let same : v ≡ w = cc in subst (λ (u : Vector). IsTrue (gives_all d u.moves)) same (all refl))
-    first (x ∷ xs) given all w rest e = (let same : x ≡ w = cc in subst (λ (u : Vector). IsTrue (gives_all d u.moves)) same (given x xs refl))
+    first : (vs : List Vector) → ((w : Vector) (rest : List Vector) → vs ≡ w ∷ rest → MayOpen d w) → (vs ≡ [] → MayOpen d v)
+        → (w : Vector) (rest : List Vector) → vs ++ v ∷ [] ≡ w ∷ rest → MayOpen d w
+    first [] given all w rest e = (let same : v ≡ w = cc in subst (MayOpen d) same (all refl))
+    first (x ∷ xs) given all w rest e = (let same : x ≡ w = cc in subst (MayOpen d) same (given x xs refl))
 
 -- of lawful vectors, each is in form, and later than those before it
 pub lawful_later : (d : Netlist) (done : List Vector) (v : Vector) (left : List Vector) → IsLawful d (done ++ v ∷ left) → last_time done < v.time
@@ -95,32 +117,33 @@ lawful_within d done v left h =
     let at = get_or-append_seam (times done) v.time (times left) 0 in
     subst (λ t. t < 2 ^ 63) at here.1
 
-pub lawful_first : (d : Netlist) (done : List Vector) (v : Vector) (left : List Vector) → IsLawful d (done ++ v ∷ left) → done ≡ [] → IsTrue (gives_all d v.moves)
+pub lawful_first : (d : Netlist) (done : List Vector) (v : Vector) (left : List Vector) → IsLawful d (done ++ v ∷ left) → done ≡ [] → MayOpen d v
 lawful_first d done v left h none = h.first v left (ap (λ vs. vs ++ v ∷ left) none)
 
--- every input is assigned exactly where the last time of each is this one
-all_given : (moves : List Move) (inputs : List ℕ) (n : ℕ) → ((i : ℕ) → i < n + length inputs → IsTrue (has (assigned moves) i)) → IsTrue (list_all (λ e. has (assigned moves) e.0) (enumerate_from n inputs))
-all_given moves [] n h = refl
-all_given moves (s ∷ inputs) n h =
-    let here : IsTrue (has (assigned moves) n) = h n (omega arith) in
-    rw here (all_given moves inputs (n + 1) (λ i lt. h i (omega arith)))
+pub lawful_unmixed : (d : Netlist) (done : List Vector) (v : Vector) → IsLawful d (done ++ v ∷ []) → IsTrue (is_unmixed d (given [] done) v.moves)
+lawful_unmixed d done v h = unmixed_at d [] done v h.unmixed
 
-given_all : (moves : List Move) (inputs : List ℕ) (n : ℕ) → IsTrue (list_all (λ e. has (assigned moves) e.0) (enumerate_from n inputs)) → (i : ℕ) → n ≤ i → i < n + length inputs → IsTrue (has (assigned moves) i)
-given_all moves [] n h i from below = absurd (omega arith)
-given_all moves (s ∷ inputs) n h i from below =
-    let both = and_both (has (assigned moves) n) (list_all (λ e. has (assigned moves) e.0) (enumerate_from (n + 1) inputs)) h in
-    let rest = given_all moves inputs (n + 1) both.1 i in
-    elim (cases_lt n i) [
-      | inl lt ↦ rest (omega arith) (omega arith)
-      | inr ge ↦ (let same : n ≡ i = omega arith in subst (λ k. IsTrue (has (assigned moves) k)) same both.0)
-    ]
+All-front : {X : Type 0} (P : X → Type 0) (xs ys : List X) → All P (xs ++ ys) → All P xs
+All-front P [] ys h = All-nil P
+All-front P (x ∷ xs) ys h = All-cons P x xs (All-head P x (xs ++ ys) h) (All-front P xs ys (All-tail P x (xs ++ ys) h))
 
-pub gives_by_times : (d : Netlist) (time : ℕ) (moves : List Move) (last_times : List ℕ) → length last_times ≡ length d.inputs → AreLastTimes time moves last_times
-    → All (λ t. t ≡ time) last_times → IsTrue (gives_all d moves)
-gives_by_times d time moves last_times size h all =
-    all_given moves d.inputs 0 (λ i lt. (h.now i (omega arith)).0 (all i 0 (omega arith)))
+-- a front of lawful vectors is lawful
+pub lawful_front : (d : Netlist) (vs ws : List Vector) → IsLawful d (vs ++ ws) → IsLawful d vs
+lawful_front d vs ws h = record {
+  rising = rising;
+  within = All-front (λ t. (1 ≤ t) × (t < 2 ^ 63)) (times vs) (times ws) (subst (All (λ t. (1 ≤ t) × (t < 2 ^ 63))) (times-append vs ws) h.within);
+  forms = All-front (IsVector d) vs ws h.forms;
+  first = λ v rest e. h.first v (rest ++ ws) (ap (λ xs. xs ++ ws) e);
+  unmixed = unmixed_front d [] vs ws h.unmixed;
+}
+  where
+    all : IsStrictlyIncreasing (times vs ++ times ws)
+    all = subst IsStrictlyIncreasing (times-append vs ws) h.rising
 
-pub times_by_gives : (d : Netlist) (time : ℕ) (moves : List Move) (last_times : List ℕ) → length last_times ≡ length d.inputs → AreLastTimes time moves last_times
-    → IsTrue (gives_all d moves) → All (λ t. t ≡ time) last_times
-times_by_gives d time moves last_times size h given k e lt =
-    get_or_default_zero last_times k e lt ∙ (h.now k lt).1 (given_all moves d.inputs 0 given k (omega arith) (omega arith))
+    rising : IsStrictlyIncreasing (times vs)
+    rising k lt =
+        let size = length-append (times vs) (times ws) in
+        let step : get_or (times vs ++ times ws) k 0 < get_or (times vs ++ times ws) (k + 1) 0 = all k (omega arith) in
+        let here : get_or (times vs ++ times ws) k 0 ≡ get_or (times vs) k 0 = get_or-append (times vs) (times ws) 0 k (omega arith) in
+        let next : get_or (times vs ++ times ws) (k + 1) 0 ≡ get_or (times vs) (k + 1) 0 = get_or-append (times vs) (times ws) 0 (k + 1) lt in
+        omega arith

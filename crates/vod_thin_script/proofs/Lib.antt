@@ -1,7 +1,9 @@
 pub mod Cuts
 pub mod Names
 pub mod Lawful
+pub mod HeldLaws
 pub mod Lines
 pub mod Once
 pub mod Progress
+pub mod Refusals
 pub mod Times

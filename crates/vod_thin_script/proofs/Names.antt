@@ -11,7 +11,8 @@ use Rattle.std.specs.List.{position_or_len, list_any}
 use Rattle.std.specs.List.Sorted.{IsStrictlyIncreasing}
 use Rattle.std.specs.Str.{bytes_eq}
 use Rattle.vod_design.specs.declared.thin.Signal.{Signal}
-use Rattle.vod_design.specs.Netlist.{Netlist, IsAccepted}
+use Rattle.vod_design.specs.declared.thin.Input.{Input}
+use Rattle.vod_design.specs.Netlist.{Netlist, IsAccepted, input_signals}
 use Rattle.vod_design.specs.Names.{input_names, HasPlainNames}
 
 -- a name's place among texts
@@ -108,18 +109,24 @@ few_below xs n rise all = by_length (length xs) refl
 
 pub few_inputs : (d : Netlist) → IsAccepted d → length d.inputs < 2 ^ 32
 few_inputs d accepted =
-    let few = few_below d.inputs (length d.signals) accepted.inputs_rise accepted.inputs_within in
+    let few = few_below (input_signals d) (length d.signals) accepted.inputs_rise accepted.inputs_within in
     let signals = accepted.few_signals in
+    let size : length (input_signals d) ≡ length d.inputs = length-map d.inputs (λ (input : Input). input.signal) in
     omega arith
 
 -- the name of an input is that of its signal
-pub input_name : (d : Netlist) (i : ℕ) (signal : Signal) → i < length d.inputs → get_or d.inputs i 0 < length d.signals
-    → (get_or d.signals (get_or d.inputs i 0) signal).name ≡ get_or (input_names d) i []
+pub input_name : (d : Netlist) (i : ℕ) (signal : Signal) → i < length (input_signals d) → get_or (input_signals d) i 0 < length d.signals
+    → (get_or d.signals (get_or (input_signals d) i 0) signal).name ≡ get_or (input_names d) i []
 input_name d i signal lt within =
     let names : List (List ℕ) = map (λ (s : Signal). s.name) d.signals in
-    let at : get_or (input_names d) i [] ≡ get_or names (get_or d.inputs i 0) [] = get_or-map (λ s. get_or names s []) d.inputs i 0 [] lt in
-    let named : get_or names (get_or d.inputs i 0) [] ≡ (get_or d.signals (get_or d.inputs i 0) signal).name = get_or-map (λ (s : Signal). s.name) d.signals (get_or d.inputs i 0) signal [] within in
+    let at : get_or (input_names d) i [] ≡ get_or names (get_or (input_signals d) i 0) [] = get_or-map (λ s. get_or names s []) (input_signals d) i 0 [] lt in
+    let named : get_or names (get_or (input_signals d) i 0) [] ≡ (get_or d.signals (get_or (input_signals d) i 0) signal).name = get_or-map (λ (s : Signal). s.name) d.signals (get_or (input_signals d) i 0) signal [] within in
     sym (at ∙ named)
+
+-- each input has a name
+pub names_size : (d : Netlist) → length (input_names d) ≡ length d.inputs
+names_size d =
+    length-map (input_signals d) (λ s. get_or (map (λ (signal : Signal). signal.name) d.signals) s []) ∙ length-map d.inputs (λ (input : Input). input.signal)
 
 -- what the place of a name among the keys of a design says
 pub no_input : (d : Netlist) (keys : List (Bor (List ℕ))) (name : List ℕ) (at : Option ℕ) → map (λ (k : Bor (List ℕ)). k.now) keys ≡ input_names d
@@ -130,25 +137,41 @@ pub input_at : (d : Netlist) (keys : List (Bor (List ℕ))) (name : List ℕ) (a
     → at ≡ position (λ (k : Bor (List ℕ)). bytes_eq name k.now) keys → at ≡ Some i → (i < length d.inputs) × (get_or (input_names d) i [] ≡ name)
 input_at d keys name at i e placed found =
     let there = at_place name (input_names d) i (sym (key_place name keys (input_names d) e) ∙ sym placed ∙ found) in
-    (subst (λ n. i < n) (length-map d.inputs _) there.0, there.1)
+    let size : length (input_names d) ≡ length d.inputs = names_size d in
+    (subst (λ n. i < n) size there.0, there.1)
+
+-- the signal of an input is one of the design
+pub input_within : (d : Netlist) → IsAccepted d → (signals : List Signal) (inputs : List Input) → signals ≡ d.signals → inputs ≡ d.inputs → (i : ℕ) (input : Input) → i < length inputs
+    → (get_or inputs i input).signal < length signals
+input_within d accepted signals inputs es ei i input lt =
+    let size : length (input_signals d) ≡ length d.inputs = length-map d.inputs (λ (input : Input). input.signal) in
+    let among : i < length d.inputs = subst (λ (xs : List Input). i < length xs) ei lt in
+    let here : get_or (input_signals d) i 0 ≡ (get_or d.inputs i input).signal = get_or-map (λ (input : Input). input.signal) d.inputs i input 0 among in
+    let within : get_or (input_signals d) i 0 < length d.signals = accepted.inputs_within i 0 (omega arith) in
+    let item : (get_or inputs i input).signal ≡ (get_or d.inputs i input).signal = ap (λ (xs : List Input). (get_or xs i input).signal) ei in
+    let count : length signals ≡ length d.signals = ap length es in
+    omega arith
 
 -- the table of a design with one more input, whose signal was read
-pub table_more : (d : Netlist) → HasPlainNames d → IsAccepted d → (signals : List Signal) (inputs : List ℕ) → signals ≡ d.signals → inputs ≡ d.inputs
-    → (i : ℕ) (signal : Signal) → i < length inputs
-    → (keys keys' : List (Bor (List ℕ))) (key : Bor (List ℕ)) → key.now ≡ (get_or signals (get_or inputs i 0) signal).name → map (λ (k : Bor (List ℕ)). k.now) keys ≡ take i (input_names d)
+pub table_more : (d : Netlist) → HasPlainNames d → IsAccepted d → (signals : List Signal) (inputs : List Input) → signals ≡ d.signals → inputs ≡ d.inputs
+    → (i : ℕ) (input : Input) (signal : Signal) → i < length inputs
+    → (keys keys' : List (Bor (List ℕ))) (key : Bor (List ℕ)) → key.now ≡ (get_or signals (get_or inputs i input).signal signal).name → map (λ (k : Bor (List ℕ)). k.now) keys ≡ take i (input_names d)
     → keys' ≡ (if list_any (λ (k : Bor (List ℕ)). bytes_eq key.now k.now) keys then keys else keys ++ key ∷ [])
     → map (λ (k : Bor (List ℕ)). k.now) keys' ≡ take (i + 1) (input_names d)
-table_more d h accepted signals inputs es ei i signal lt keys keys' key named e made =
-    let among : i < length d.inputs = subst (λ (xs : List ℕ). i < length xs) ei lt in
-    let size : length (input_names d) ≡ length d.inputs = length-map d.inputs _ in
-    let reads : get_or signals (get_or inputs i 0) signal ≡ get_or d.signals (get_or d.inputs i 0) signal = ap (λ (xs : List Signal). get_or xs (get_or inputs i 0) signal) es ∙ ap (λ (xs : List ℕ). get_or d.signals (get_or xs i 0) signal) ei in
-    let name : key.now ≡ get_or (input_names d) i [] = named ∙ ap (λ (s : Signal). s.name) reads ∙ input_name d i signal among (accepted.inputs_within i 0 among) in
+table_more d h accepted signals inputs es ei i input signal lt keys keys' key named e made =
+    let size : length (input_signals d) ≡ length d.inputs = length-map d.inputs (λ (input : Input). input.signal) in
+    let among : i < length d.inputs = subst (λ (xs : List Input). i < length xs) ei lt in
+    let all : length (input_names d) ≡ length d.inputs = names_size d in
+    let here : get_or (input_signals d) i 0 ≡ (get_or d.inputs i input).signal = get_or-map (λ (input : Input). input.signal) d.inputs i input 0 among in
+    let reads : get_or signals (get_or inputs i input).signal signal ≡ get_or d.signals (get_or (input_signals d) i 0) signal =
+    ap (λ (xs : List Signal). get_or xs (get_or inputs i input).signal signal) es ∙ ap (λ (xs : List Input). get_or d.signals (get_or xs i input).signal signal) ei ∙ ap (λ n. get_or d.signals n signal) (sym here) in
+    let name : key.now ≡ get_or (input_names d) i [] = named ∙ ap (λ (s : Signal). s.name) reads ∙ input_name d i signal (omega arith) (accepted.inputs_within i 0 (omega arith)) in
     names_more (input_names d) i keys keys' key h.differ (omega arith) e name made
 
 -- the table of a design is whole behind its last input
-pub table_whole : (d : Netlist) (inputs : List ℕ) → inputs ≡ d.inputs → (i : ℕ) → length inputs ≤ i → (keys : List (Bor (List ℕ))) → map (λ (k : Bor (List ℕ)). k.now) keys ≡ take i (input_names d)
+pub table_whole : (d : Netlist) (inputs : List Input) → inputs ≡ d.inputs → (i : ℕ) → length inputs ≤ i → (keys : List (Bor (List ℕ))) → map (λ (k : Bor (List ℕ)). k.now) keys ≡ take i (input_names d)
     → map (λ (k : Bor (List ℕ)). k.now) keys ≡ input_names d
 table_whole d inputs ei i past keys e =
-    let size : length (input_names d) ≡ length d.inputs = length-map d.inputs _ in
+    let size : length (input_names d) ≡ length d.inputs = names_size d in
     let all : length (input_names d) ≤ i = (let same = ap length ei in omega arith) in
     e ∙ take_all i (input_names d) all

@@ -22,6 +22,7 @@ use Rattle.vod_thin_script.specs.Pieces.{Lacks, StopsAt}
 use Rattle.vod_thin_script.specs.Script.{IsLine, AreLines, IsScript, digit_of, assignment_text}
 use Rattle.vod_thin_script.specs.Reading.{IsMove, AreMoves, Assigns, IsValue}
 use Rattle.vod_thin_script.proofs.Cuts.{cut_once, Lacks-append}
+use Rattle.vod_thin_script.proofs.Names.{names_size}
 
 -- different elements that are equal have one place
 pub place_once : (names : List (List ℕ)) → AllPairs (λ a b. a ≢ b) names → (i j : ℕ) (d : List ℕ) → i < length names → j < length names → get_or names i d ≡ get_or names j d → i ≡ j
@@ -96,7 +97,7 @@ plain_name d h i = plain_bytes (get_or (input_names d) i []) (plain_names (input
 
 -- what follows the name of an assignment
 names_len : (d : Netlist) → length (input_names d) ≡ length d.inputs
-names_len d = length-map d.inputs _
+names_len d = names_size d
 
 same_move : (m n : Move) → m.input ≡ n.input → m.value ≡ n.value → m ≡ n
 same_move m n i v = same_fields m.input n.input m.value n.value i v

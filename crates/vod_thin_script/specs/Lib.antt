@@ -1,3 +1,5 @@
 pub mod Pieces
 pub mod Reading
 pub mod Script
+pub mod Held
+pub mod Fault

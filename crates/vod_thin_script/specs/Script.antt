@@ -1,5 +1,5 @@
 -- Which bytes are a script of a design in the thin form, and its vectors.
-use Rattle.std.specs.Prelude.{◌≡◌, ℕ, ◌≤◌, ◌^◌, List, [], ◌∷◌, ◌++◌, length, slice_index_or}
+use Rattle.std.specs.Prelude.{◌≡◌, ◌≢◌, ℕ, suc, ◌<◌, ◌≤◌, ◌^◌, ◌⊎◌, List, [], ◌∷◌, ◌++◌, length, slice_index_or}
 use Rattle.std.specs.List.{flat_map}
 use Rattle.std.specs.Str.Parse.{digits_value}
 use Rattle.vod_text.specs.Numeral.{IsDecimal}
@@ -39,3 +39,21 @@ pub record IsScript (d : Netlist) (bytes : List ℕ) (vs : List Vector) : Type 0
   pub short : length bytes ≤ 2 ^ 20
   pub lines : AreLines d bytes vs
   pub lawful : IsLawful d vs
+
+-- The first line that breaks a rule, by its number from 1: the lines before it are of lawful vectors, and it isn't the line of
+-- a vector that is lawful behind them.
+pub record IsWrongLine (d : Netlist) (bytes : List ℕ) (line : ℕ) : Type 0 where
+  pub short : length bytes ≤ 2 ^ 20
+  pub before : List ℕ
+  pub from : List ℕ
+  pub whole : bytes ≡ before ++ from
+  pub more : from ≢ []
+  pub vectors : List Vector
+  pub lines : AreLines d before vectors
+  pub lawful : IsLawful d vectors
+  pub wrong : (text rest : List ℕ) (v : Vector) → from ≡ text ++ 10 ∷ rest → IsLine d text v → IsLawful d (vectors ++ v ∷ []) → ⊥
+  pub number : line ≡ suc (length vectors)
+
+-- where a script is refused: at its first wrong line, or at 0 where it has more than 1,048,576 bytes
+abbrev pub IsRefused : Netlist → List ℕ → ℕ → Type 0
+IsRefused d bytes line = ((2 ^ 20 < length bytes) × (line ≡ 0)) ⊎ IsWrongLine d bytes line

@@ -19,8 +19,12 @@ impl<'a> Model for Inputs<'a> {
     ghost use Rattle.std.specs.Prelude.{◌≡◌, ◌<◌, ◌^◌, map, length};
     ghost use Rattle.vod_design.specs.Netlist.{Netlist};
     ghost use Rattle.vod_design.specs.Names.{input_names};
+    ghost use Rattle.vod_design.specs.contracts.thin.Expr as e;
+    ghost use Rattle.std.specs.Coded.{codes};
 
     ghost Value = { Netlist };
+
+    ghost coded = { Prim.hlevel (codes, e.the_row.coded) };
 
     ghost view = { λ a. a.design.now };
 
@@ -35,8 +39,8 @@ impl<'a> Inputs<'a> {
     {
         let signals = design.signals();
         let mut names = IndexSet::with_capacity(alloc, design.inputs().len())?;
-        for signal in design.inputs() {
-            names.insert(signals[*signal as usize].name.as_slice())?;
+        for input in design.inputs() {
+            names.insert(signals[input.signal as usize].name.as_slice())?;
         }
         Ok(Inputs { design, names })
     }

@@ -1,31 +1,46 @@
-ghost use Rattle.std.specs.Prelude.{◌≡◌, ◌∷◌, [], IfOk};
+ghost use Rattle.std.specs.Prelude.{◌≡◌, ◌∷◌, [], false, IfOk};
 ghost use Rattle.vod_design.specs.Names.{HasPlainNames};
 
 use crate::{ScriptFault, read_script};
 use std::alloc::{AllocError, Global};
 use std::test::Fail;
 use vod_design::thin::Bit::{One, Zero};
-use vod_design::thin::{Bit, Design, Name, Signal, Vector};
+use vod_design::thin::{Bit, Class, Design, Input, Name, Parts, Signal, Vector};
 
 // The time of a vector, and the input and the value of each assignment.
 type Expected<'a> = (u64, &'a [(u32, Bit)]);
 
 fn signal(alloc: Global, name: u8) -> Result<Signal, AllocError>
-    ensures { IfOk result (λ signal. signal.name ≡ name ∷ []) }
+    ensures { IfOk result (λ signal. (signal.name ≡ name ∷ []) × (signal.register ≡ false)) }
 {
     let name = Name::new(Vec::from_slice(alloc, &[name])?);
-    Ok(Signal { name })
+    Ok(Signal {
+        name,
+        register: false,
+    })
 }
 
-// `module g (input a, input b); endmodule`
+fn input(signal: u32, class: Class) -> Input
+    ensures { result ≡ record { signal = signal; class = class } }
+{
+    Input { signal, class }
+}
+
+// `module g (input a, input b, input k); endmodule`, k being a clock
 fn design(alloc: Global) -> Result<Design, AllocError>
     ensures { IfOk result HasPlainNames }
 {
-    let name = Name::new(Vec::from_slice(alloc, b"g")?);
     let (a, b) = (signal(alloc, b'a')?, signal(alloc, b'b')?);
-    let signals = vec![in alloc; a, b]?;
-    let inputs = vec![in alloc; 0, 1]?;
-    Ok(Design::of(name, signals, inputs, Vec::new(alloc)))
+    let k = signal(alloc, b'k')?;
+    let (data, clock) = (Class::Data, Class::Clock);
+    Ok(Design::of(Parts {
+        name: Name::new(Vec::from_slice(alloc, b"g")?),
+        signals: vec![in alloc; a, b, k]?,
+        inputs: vec![in alloc; input(0, data), input(1, data), input(2, clock)]?,
+        drivers: Vec::new(alloc),
+        blocks: Vec::new(alloc),
+        initials: Vec::new(alloc),
+    }))
 }
 
 fn is_vector(vector: &Vector, expected: Expected) -> bool {
@@ -50,12 +65,21 @@ fn is_read(alloc: Global, script: &[u8], expected: &[Expected]) -> Result<bool, 
     Ok(same)
 }
 
-fn is_refused(alloc: Global, script: &[u8]) -> Result<bool, AllocError> {
+fn is_refused(alloc: Global, script: &[u8], line: u64) -> Result<bool, AllocError> {
     let design = design(alloc)?;
     Ok(matches!(
         &read_script(alloc, &design, script),
-        Err(ScriptFault::Refused)
+        Err(ScriptFault::Refused { line: at }) if *at == line
     ))
+}
+
+// Whether a script is refused at this line, or read where it is 0.
+fn comes_to(alloc: Global, script: &[u8], line: u64) -> Result<bool, AllocError> {
+    let design = design(alloc)?;
+    match read_script(alloc, &design, script) {
+        Ok(_) => Ok(line == 0),
+        Err(fault) => Ok(fault == ScriptFault::Refused { line }),
+    }
 }
 
 // A first line, and lines of 24 bytes.
@@ -95,47 +119,70 @@ fn scripts_are_read(rt: HostRuntime) -> Result<(), Fail> {
 
 #[test]
 fn scripts_are_refused(rt: HostRuntime) -> Result<(), Fail> {
-    let scripts: [&[u8]; 33] = [
-        // times
-        b"0 a=1 b=0\n",
-        b"1 a=1 b=0\n1 b=1\n",
-        b"2 a=1 b=0\n1 b=1\n",
-        b"9223372036854775808 a=1 b=0\n",
-        b"00000000000000000001 a=1 b=0\n",
-        b" a=1 b=0\n",
-        b"+1 a=1 b=0\n",
-        b"1f a=1 b=0\n",
-        // which inputs are assigned
-        b"1 a=1\n",
-        b"1 b=1\n2 a=1\n",
-        b"1\n",
-        b"1 a=1 b=0\n2\n",
-        b"1 a=1 b=0\n2 \n",
-        b"1 a=1 b=0 a=1\n",
-        b"1 a=1 b=0\n2 b=1 b=1\n",
-        b"1 a=1 b=0\n2 c=1\n",
-        b"1 a=1 b=0\n2 bb=1\n",
-        b"1 a=1 b=0\n2 =1\n",
-        // values
-        b"1 a=1 b=0\n2 b=2\n",
-        b"1 a=1 b=0\n2 b=x\n",
-        b"1 a=1 b=0\n2 b=\n",
-        b"1 a=1 b=0\n2 b\n",
-        b"1 a=1 b=0\n2 b=10\n",
-        b"1 a=1 b=0\n2 b==1\n",
-        // bytes between the parts, and at the ends of lines
-        b"1  a=1 b=0\n",
-        b"1 a=1 b=0 \n",
-        b" 1 a=1 b=0\n",
-        b"1 a=1\tb=0\n",
-        b"1 a=1 b=0\r\n",
-        b"1 a=1 b=0\n\n2 b=1\n",
-        b"1 a=1 b=0\n2 b=1",
-        b"\n",
-        b"// a\n1 a=1 b=0\n",
+    let scripts: [(&[u8], u64); 33] = [
+        (b"0 a=1 b=0\n", 1),
+        (b"1 a=1 b=0\n1 b=1\n", 2),
+        (b"2 a=1 b=0\n1 b=1\n", 2),
+        (b"9223372036854775808 a=1 b=0\n", 1),
+        (b"00000000000000000001 a=1 b=0\n", 1),
+        (b" a=1 b=0\n", 1),
+        (b"+1 a=1 b=0\n", 1),
+        (b"1f a=1 b=0\n", 1),
+        (b"1 a=1\n", 1),
+        (b"1 b=1\n2 a=1\n", 1),
+        (b"1\n", 1),
+        (b"1 a=1 b=0\n2\n", 2),
+        (b"1 a=1 b=0\n2 \n", 2),
+        (b"1 a=1 b=0 a=1\n", 1),
+        (b"1 a=1 b=0\n2 b=1 b=1\n", 2),
+        (b"1 a=1 b=0\n2 d=1\n", 2),
+        (b"1 a=1 b=0\n2 bb=1\n", 2),
+        (b"1 a=1 b=0\n2 =1\n", 2),
+        (b"1 a=1 b=0\n2 b=2\n", 2),
+        (b"1 a=1 b=0\n2 b=x\n", 2),
+        (b"1 a=1 b=0\n2 b=\n", 2),
+        (b"1 a=1 b=0\n2 b\n", 2),
+        (b"1 a=1 b=0\n2 b=10\n", 2),
+        (b"1 a=1 b=0\n2 b==1\n", 2),
+        (b"1  a=1 b=0\n", 1),
+        (b"1 a=1 b=0 \n", 1),
+        (b" 1 a=1 b=0\n", 1),
+        (b"1 a=1\tb=0\n", 1),
+        (b"1 a=1 b=0\r\n", 1),
+        (b"1 a=1 b=0\n\n2 b=1\n", 2),
+        (b"1 a=1 b=0\n2 b=1", 2),
+        (b"\n", 1),
+        (b"// a\n1 a=1 b=0\n", 1),
     ];
-    for script in scripts {
-        assert!(rt; is_refused(rt.alloc(), script)?);
+    for (script, line) in scripts {
+        assert!(rt; is_refused(rt.alloc(), script, line)?);
+    }
+    Ok(())
+}
+
+// Scripts that move clocks and data.
+#[test]
+fn clocks_and_data(rt: HostRuntime) -> Result<(), Fail> {
+    let rows: [(&[u8], u64); 14] = [
+        // the first vector assigns all data and no clock
+        (b"1 a=0 b=0\n2 k=0\n", 0),
+        (b"1 a=0 b=0 k=0\n", 1),
+        (b"1 k=0\n2 a=0 b=0\n", 1),
+        (b"1 a=0 k=0\n", 1),
+        // what changes is all of clocks or all of data
+        (b"1 a=0 b=0\n2 k=0 a=1\n", 2),
+        (b"1 a=0 b=0\n2 a=1 k=0\n", 2),
+        (b"1 a=0 b=0\n2 k=0 a=0\n3 k=1 b=0\n", 0),
+        (b"1 a=0 b=0\n2 k=0\n3 a=1 k=0\n4 k=1 a=1\n", 0),
+        (b"1 a=0 b=0\n2 k=0\n3 a=1 k=0\n4 k=1 a=0\n", 4),
+        (b"1 a=0 b=0\n2 a=1\n3 k=0 a=0\n", 3),
+        (b"1 a=0 b=0\n2 k=0 a=0 b=1\n", 2),
+        (b"1 a=0 b=0\n2 k=1\n3 k=0\n4 k=0\n", 0),
+        (b"1 a=0 b=0\n2 k=1 a=0 b=0\n3 a=0\n", 0),
+        (b"1 a=0 b=0\n2 k=1\n3 k=1 a=1 b=1\n", 0),
+    ];
+    for (script, line) in rows {
+        assert!(rt; comes_to(rt.alloc(), script, line)?);
     }
     Ok(())
 }
@@ -148,6 +195,6 @@ fn scripts_have_at_most_a_mebibyte(rt: HostRuntime) -> Result<(), Fail> {
     let vectors = read_script(rt.alloc(), &design, full.as_bytes());
     assert_eq!(rt; vectors.map(|vectors| vectors.len()), Ok(43_691));
     let over = long(rt.alloc(), "00000001 a=1 b=0\n")?;
-    assert!(rt; is_refused(rt.alloc(), over.as_bytes())?);
+    assert!(rt; is_refused(rt.alloc(), over.as_bytes(), 0)?);
     Ok(())
 }

@@ -1,5 +1,5 @@
 -- The lines of a value change dump (IEEE 1364-2005, 18.2).
-use Rattle.std.specs.Prelude.{ℕ, zero, suc, ◌+◌, ◌/◌, ◌%◌, List, [], ◌∷◌, ◌++◌, nat_lt, codes, if◌then◌else◌}
+use Rattle.std.specs.Prelude.{ℕ, zero, suc, ◌+◌, ◌/◌, ◌%◌, Bool, List, [], ◌∷◌, ◌++◌, nat_lt, codes, if◌then◌else◌}
 use Rattle.std.specs.List.{enumerate_from, flat_map}
 use Rattle.std.specs.Fmt.{decimal}
 use Rattle.sha2.specs.Sha256.{sha256}
@@ -37,9 +37,13 @@ digest_line source = line (codes "$comment source sha256 " ++ encode_lower (sha2
 abbrev pub scope_line : List ℕ → List ℕ
 scope_line name = line (codes "$scope module " ++ name ++ codes " $end")
 
--- `$var wire 1 CODE NAME $end`
+-- the type of a variable: that of a register, or of a net
+abbrev pub variable_type : Bool → List ℕ
+variable_type register = if register then codes "reg" else codes "wire"
+
+-- `$var reg 1 CODE NAME $end` of a register, `$var wire 1 CODE NAME $end` of a net
 abbrev pub var_line : ℕ → Signal → List ℕ
-var_line n signal = line (codes "$var wire 1 " ++ code n ++ codes " " ++ signal.name ++ codes " $end")
+var_line n signal = line (codes "$var " ++ variable_type signal.register ++ codes " 1 " ++ code n ++ codes " " ++ signal.name ++ codes " $end")
 
 -- the lines before the first time: version, the digest of the source, the time unit, the scope with its variables
 abbrev pub header_text : List ℕ → Netlist → List ℕ

@@ -1,7 +1,7 @@
 // The lines before the first time.
 ghost use Rattle.std.specs.Prelude.{◌≡◌, ◌^◌, ◌<◌, ◌++◌, IfOk, OnOk, length};
 ghost use Rattle.std.specs.List.{enumerate_from, flat_map};
-ghost use Rattle.vod_vcd.specs.Text.{header_text, digest_line, scope_line, var_line};
+ghost use Rattle.vod_vcd.specs.Text.{header_text, digest_line, scope_line, variable_type, var_line};
 
 use crate::lines::code_of;
 use sha2::{Digest, Sha256};
@@ -54,12 +54,21 @@ fn add_variables(text: &mut Vec<u8>, signals: &[Signal]) -> Result<(), AllocErro
     Ok(())
 }
 
+// The type of a variable that is a register, or a net.
+fn variable_type(register: bool) -> &'static [u8]
+    ensures { result.now ≡ variable_type register }
+{
+    if register { b"reg" } else { b"wire" }
+}
+
 // Adds the line of a signal.
 fn add_variable(text: &mut Vec<u8>, number: usize, signal: &Signal) -> Result<(), AllocError>
     requires { number < 2 ^ 25 }
     ensures { OnOk result (text.new.items ≡ text.old.items ++ var_line number signal.now) }
 {
-    text.extend_from_slice(b"$var wire 1 ")?;
+    text.extend_from_slice(b"$var ")?;
+    text.extend_from_slice(variable_type(signal.register))?;
+    text.extend_from_slice(b" 1 ")?;
     text.extend_from_slice(code_of(number).as_slice())?;
     text.extend_from_slice(b" ")?;
     text.extend_from_slice(signal.name.as_slice())?;

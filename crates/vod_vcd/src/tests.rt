@@ -1,65 +1,82 @@
-ghost use Rattle.std.specs.Prelude.{◌≡◌, length, IfOk};
+ghost use Rattle.std.specs.Prelude.{◌≡◌, length, map, true, false, [], ◌∷◌, IfOk};
 
 use crate::Writer;
 use crate::lines::code_of;
 use std::alloc::{AllocError, Global};
 use std::test::Fail;
-use vod_design::thin::{Bit, Design, Driver, Expr, Name, Operand, Signal};
+use vod_design::thin::{
+    Bit, Class, Design, Driver, Expr, Initial, Input, Name, Parts, Signal, expr_by_operands,
+};
 use vod_io::{Failed, MemSink};
 
-const SOURCE: &[u8] =
-    b"module g (input a, input b, output x, output y); assign x = a & ~b; assign y = a ^ b; endmodule";
+const SOURCE: &[u8] = b"module g (input a, input b, output x); reg r = 0; assign x = r; endmodule";
 
 // The digest is what `printf '%s' "$SOURCE" | sha256sum` prints of the text above.
 const HEADER: &[u8] = b"$version vod 1 $end
-$comment source sha256 5a6c5dda2d893b15b7909d04c1ed6d55fcc2c2a8ab213e799ad8be4d53116f30 $end
+$comment source sha256 1dd47652d2821435fd032b8c743c3eaa010388a5a7047a9fb063b765d89740d5 $end
 $timescale 1 ns $end
 $scope module g $end
 $var wire 1 ! a $end
 $var wire 1 \" b $end
 $var wire 1 # x $end
-$var wire 1 $ y $end
+$var reg 1 $ r $end
 $upscope $end
 $enddefinitions $end
 ";
 
-fn signal(alloc: Global, name: &[u8]) -> Result<Signal, AllocError> {
+fn signal(alloc: Global, name: &[u8], register: bool) -> Result<Signal, AllocError>
+    ensures { IfOk result (λ s. s.register ≡ register) }
+{
     Ok(Signal {
         name: Name::new(Vec::from_slice(alloc, name)?),
+        register,
     })
 }
 
+// The signals of the source, by declaration.
+fn signals(alloc: Global) -> Result<Vec<Signal>, AllocError>
+    ensures four { IfOk result (λ s. length s.items ≡ 4) }
+    ensures kinds { IfOk result (λ s. map (λ signal. signal.register) s.items ≡ false ∷ false ∷ false ∷ true ∷ []) }
+{
+    let a = signal(alloc, b"a", false)?;
+    let b = signal(alloc, b"b", false)?;
+    let x = signal(alloc, b"x", false)?;
+    let r = signal(alloc, b"r", true)?;
+    Ok(vec![in alloc; a, b, x, r]?)
+}
+
+// A data input.
+fn input(signal: u32) -> Input
+    ensures { result ≡ record { signal = signal; class = Class.Data } }
+{
+    Input {
+        signal,
+        class: Class::Data,
+    }
+}
+
 // The design of the source.
-fn gates(alloc: Global) -> Result<Design, AllocError>
+fn design(alloc: Global) -> Result<Design, AllocError>
     ensures { IfOk result (λ d. length d.signals ≡ 4) }
 {
-    let name = Name::new(Vec::from_slice(alloc, b"g")?);
-    let (a, b) = (signal(alloc, b"a")?, signal(alloc, b"b")?);
-    let (x, y) = (signal(alloc, b"x")?, signal(alloc, b"y")?);
-    let signals = vec![in alloc; a, b, x, y]?;
-    let inputs = vec![in alloc; 0, 1]?;
-    let in_a = Operand {
-        signal: 0,
-        inverted: false,
-    };
-    let in_b = Operand {
-        signal: 1,
-        inverted: false,
-    };
-    let not_b = Operand {
-        signal: 1,
-        inverted: true,
-    };
     let x = Driver {
         target: 2,
-        value: Expr::And(in_a, not_b),
+        value: Expr::Signal(3),
     };
-    let y = Driver {
-        target: 3,
-        value: Expr::Xor(in_a, in_b),
+    let r = Initial {
+        register: 3,
+        value: Bit::Zero,
     };
-    let drivers = vec![in alloc; x, y]?;
-    Ok(Design::of(name, signals, inputs, drivers))
+    let parts = Parts {
+        name: Name::new(Vec::from_slice(alloc, b"g")?),
+        signals: signals(alloc)?,
+        inputs: vec![in alloc; input(0), input(1)]?,
+        drivers: vec![in alloc; x]?,
+        blocks: Vec::new(alloc),
+        initials: vec![in alloc; r]?,
+    };
+    expr_by_operands();
+    Ok(Design::of(parts))
 }
 
 fn sink(alloc: Global, fails: &[u64]) -> Result<MemSink, AllocError> {
@@ -69,12 +86,12 @@ fn sink(alloc: Global, fails: &[u64]) -> Result<MemSink, AllocError> {
 fn writer(alloc: Global) -> Result<Writer, AllocError>
     ensures { IfOk result (λ w. w.signals ≡ 4) }
 {
-    let design = gates(alloc)?;
+    let design = design(alloc)?;
     Writer::new(alloc, &design, SOURCE).map_err(|_| AllocError)
 }
 
 #[test]
-fn a_window_of_gates(rt: HostRuntime) -> Result<(), Fail> {
+fn a_window(rt: HostRuntime) -> Result<(), Fail> {
     let mut writer = writer(rt.alloc())?;
     let mut sink = sink(rt.alloc(), &[])?;
     writer.header(&mut sink)?;
