@@ -1,17 +1,8 @@
-//! The thin form of a design, as bytes.
+//! The thin form of a design: which sources are of it, the design of each, and where others are refused.
 #![tactic(auto)]
 
 mod fault;
+mod machine;
 mod names;
-mod ports;
-mod read;
-mod resolve;
-mod syntax;
-#[cfg(test)]
-mod tests;
-mod token;
 
 pub use fault::ThinFault;
-pub use read::{one_design, read_thin};
-pub use syntax::{Direction, Operator};
-pub use token::{RESERVED, Word};
