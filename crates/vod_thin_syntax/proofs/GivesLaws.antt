@@ -16,3 +16,7 @@ pub refusal_gives : {S T A B : Type 0} (inner : S → A) (outer : T → B) (r : 
 refusal_gives {S} {T} {A} {B} inner outer r e f rest read whole p q h more =
     let same : Err f ≡ r = cc in
     subst (λ v. Gives outer v rest whole) same (stop_gives inner outer f rest read whole h more)
+
+pub refused_gives : {T A : Type 0} (view : T → A) (e : Stop) (rest : List Mark) (read : Read A) → e ≡ stop.Refused → Gives view (Err e) rest read → read ≡ Refused rest
+refused_gives view stop.Refused rest read e h = h
+refused_gives view stop.Memory rest read e h = cc

@@ -1,3 +1,4 @@
+mod Breaking
 mod GivesLaws
 mod SteadyParts
 mod Rounds

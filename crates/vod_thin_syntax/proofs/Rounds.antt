@@ -31,7 +31,7 @@ round_more {A} stop read shrinks (suc rounds) sofar ts few = by_next (is_next st
 
     by_next : (b : Bool) → followed (read ts) (λ x rest. many_within (suc rounds) stop read (sofar ++ x ∷ []) rest) ≡ followed (read ts) (λ x rest. many_within rounds stop read (sofar ++ x ∷ []) rest)
         → cond b (Got sofar (rest_of ts)) (followed (read ts) (λ x rest. many_within (suc rounds) stop read (sofar ++ x ∷ []) rest))
-          ≡ cond b (Got sofar (rest_of ts)) (followed (read ts) (λ x rest. many_within rounds stop read (sofar ++ x ∷ []) rest))
+        ≡ cond b (Got sofar (rest_of ts)) (followed (read ts) (λ x rest. many_within rounds stop read (sofar ++ x ∷ []) rest))
     by_next true more = refl
     by_next false more = more
 

@@ -73,7 +73,8 @@ scan_takes (t ∷ ts) s sofar value rest h = by_end (λ next. scan_takes ts next
     by_next (Some next) e f more =
         let p = more next (sym (scan_next s sofar t ts next f e) ∙ h) in
         record {
-          front = t ∷ p.front; split = ap (λ v. t ∷ v) p.split;
+          front = t ∷ p.front;
+          split = ap (λ v. t ∷ v) p.split;
           same = λ other. scan_next s sofar t (p.front ++ other) next (ends_same s t (p.front ++ other) ts ∙ f) e ∙ p.same other;
         }
 
@@ -95,7 +96,11 @@ scan_stuck (t ∷ ts) s sofar rest h = by_end (λ next. scan_stuck ts next (sofa
         let example = scan_example s sofar in
         let whole : t ∷ ts ≡ rest = refused_rest (sym (scan_refused s sofar t ts f e) ∙ h) in
         record {
-          front = []; split = whole; more = example.marks; value = example.value; goes = example.goes;
+          front = [];
+          split = whole;
+          more = example.marks;
+          value = example.value;
+          goes = example.goes;
           same = λ u us g other.
               let same : t ≡ u = (let both : t ∷ ts ≡ u ∷ us = whole ∙ g in cc) in
               subst (λ v. scan_read s sofar (v ∷ other) ≡ Refused (v ∷ other)) same (scan_refused s sofar t other (ends_same s t other ts ∙ f) e);
@@ -103,7 +108,10 @@ scan_stuck (t ∷ ts) s sofar rest h = by_end (λ next. scan_stuck ts next (sofa
     by_next (Some next) e f more =
         let p = more next (sym (scan_next s sofar t ts next f e) ∙ h) in
         record {
-          front = t ∷ p.front; split = ap (λ v. t ∷ v) p.split; more = p.more; value = p.value;
+          front = t ∷ p.front;
+          split = ap (λ v. t ∷ v) p.split;
+          more = p.more;
+          value = p.value;
           goes = λ other. scan_next s sofar t (p.front ++ (p.more ++ other)) next (ends_same s t (p.front ++ (p.more ++ other)) ts ∙ f) e ∙ p.goes other;
           same = λ u us g other. scan_next s sofar t (p.front ++ u ∷ other) next (ends_same s t (p.front ++ u ∷ other) ts ∙ f) e ∙ p.same u us g other;
         }
@@ -140,7 +148,8 @@ stepped s next (t ∷ ts) rest h = by_next (after_mark t s) refl h
         let same : other ≡ next = got_value f in
         let left : ts ≡ rest = got_rest f in
         record {
-          token = t; split = ap (λ v. t ∷ v) left;
+          token = t;
+          split = ap (λ v. t ∷ v) left;
           goes = λ sofar g. scan_next s sofar t ts next g (e ∙ ap Some same) ∙ ap (scan_read next (sofar ++ t ∷ [])) left;
         }
 

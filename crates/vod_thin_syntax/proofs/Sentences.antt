@@ -119,7 +119,7 @@ direction_sound ts d rest h =
     choice_got word.Input (give direction.Input) ((word.Output, give direction.Output) ∷ []) ts d rest (ts ≡ Fixed (direction_word d) ∷ rest)
     (λ us e f. e ∙ ap (λ v. Fixed word.Input ∷ v) (got_rest f) ∙ ap (λ v. Fixed (direction_word v) ∷ rest) (got_value f))
     (λ g. choice_got word.Output (give direction.Output) [] ts d rest (ts ≡ Fixed (direction_word d) ∷ rest)
-        (λ us e f. e ∙ ap (λ v. Fixed word.Output ∷ v) (got_rest f) ∙ ap (λ v. Fixed (direction_word v) ∷ rest) (got_value f)) (λ f. cc) g)
+    (λ us e f. e ∙ ap (λ v. Fixed word.Output ∷ v) (got_rest f) ∙ ap (λ v. Fixed (direction_word v) ∷ rest) (got_value f)) (λ f. cc) g)
     h
 
 digit_sound : (ts : List Mark) (b : Bool) (rest : List Mark) → digit_read ts ≡ Got b rest → ts ≡ Fixed (digit_word b) ∷ rest
@@ -127,7 +127,7 @@ digit_sound ts b rest h =
     choice_got word.Zero (give false) ((word.One, give true) ∷ []) ts b rest (ts ≡ Fixed (digit_word b) ∷ rest)
     (λ us e f. e ∙ ap (λ v. Fixed word.Zero ∷ v) (got_rest f) ∙ ap (λ v. Fixed (digit_word v) ∷ rest) (got_value f))
     (λ g. choice_got word.One (give true) [] ts b rest (ts ≡ Fixed (digit_word b) ∷ rest)
-        (λ us e f. e ∙ ap (λ v. Fixed word.One ∷ v) (got_rest f) ∙ ap (λ v. Fixed (digit_word v) ∷ rest) (got_value f)) (λ f. cc) g)
+    (λ us e f. e ∙ ap (λ v. Fixed word.One ∷ v) (got_rest f) ∙ ap (λ v. Fixed (digit_word v) ∷ rest) (got_value f)) (λ f. cc) g)
     h
 
 port_sound : (ts : List Mark) (port : Port) (rest : List Mark) → port_read ts ≡ Got port rest → ts ≡ port_marks port ++ rest
@@ -183,7 +183,8 @@ ports_sound ts ports rest h =
     let a = bind_got port_read _ ts ports rest h in
     let p = many_sound word.Close next_port_read next_port_marks (λ p. p) (λ p. Unit {0}) next_port_shrinks next_port_prints (length a.1) (a.0 ∷ []) a.1 (omega arith) ports rest a.3 in
     record {
-      first = a.0; more = p.parts;
+      first = a.0;
+      more = p.parts;
       are = p.all_are ∙ ap (λ v. a.0 ∷ v) (map_same p.parts);
       split = port_sound ts a.0 a.1 a.2 ∙ ap (λ v. port_marks a.0 ++ v) p.split ∙ sym (append_assoc (port_marks a.0) (flat_map next_port_marks p.parts) (Fixed word.Close ∷ rest));
     }
@@ -206,11 +207,12 @@ ItemRead ts item rest = (tree : Item Value) × GoodItem tree × (item_printed tr
 wire_sound : (ts us : List Mark) (item : Item (List Mark)) (rest : List Mark) → ts ≡ Fixed word.Wire ∷ us → wire_read us ≡ Got item rest → ItemRead ts item rest
 wire_sound ts us item rest e h =
     let a = bind_got name_read _ us item rest h in
-    let b = bind_got (word_read word.Semicolon) _ a.1 item rest a.3 in
-    (
-      Wire a.0, refl, got_value b.3,
+    let b = bind_got (word_read word.Semicolon) _ a.1 item rest a.3 in (
+      Wire a.0,
+      refl,
+      got_value b.3,
       e ∙ ap (λ v. Fixed word.Wire ∷ v) (name_sound us a.0 a.1 a.2) ∙ ap (λ v. Fixed word.Wire ∷ Named a.0 ∷ v) (word_sound word.Semicolon a.1 b.0 b.1 b.2)
-      ∙ ap (λ v. Fixed word.Wire ∷ Named a.0 ∷ Fixed word.Semicolon ∷ v) (got_rest b.3),
+          ∙ ap (λ v. Fixed word.Wire ∷ Named a.0 ∷ Fixed word.Semicolon ∷ v) (got_rest b.3),
     )
 
 register_sound : (ts us : List Mark) (item : Item (List Mark)) (rest : List Mark) → ts ≡ Fixed word.Reg ∷ us → register_read us ≡ Got item rest → ItemRead ts item rest
@@ -218,13 +220,14 @@ register_sound ts us item rest e h =
     let a = bind_got name_read _ us item rest h in
     let b = bind_got (word_read word.Equals) _ a.1 item rest a.3 in
     let d = bind_got digit_read _ b.1 item rest b.3 in
-    let f = bind_got (word_read word.Semicolon) _ d.1 item rest d.3 in
-    (
-      Register a.0 d.0, refl, got_value f.3,
+    let f = bind_got (word_read word.Semicolon) _ d.1 item rest d.3 in (
+      Register a.0 d.0,
+      refl,
+      got_value f.3,
       e ∙ ap (λ v. Fixed word.Reg ∷ v) (name_sound us a.0 a.1 a.2) ∙ ap (λ v. Fixed word.Reg ∷ Named a.0 ∷ v) (word_sound word.Equals a.1 b.0 b.1 b.2)
-      ∙ ap (λ v. Fixed word.Reg ∷ Named a.0 ∷ Fixed word.Equals ∷ v) (digit_sound b.1 d.0 d.1 d.2)
-      ∙ ap (λ v. Fixed word.Reg ∷ Named a.0 ∷ Fixed word.Equals ∷ Fixed (digit_word d.0) ∷ v) (word_sound word.Semicolon d.1 f.0 f.1 f.2)
-      ∙ ap (λ v. Fixed word.Reg ∷ Named a.0 ∷ Fixed word.Equals ∷ Fixed (digit_word d.0) ∷ Fixed word.Semicolon ∷ v) (got_rest f.3),
+          ∙ ap (λ v. Fixed word.Reg ∷ Named a.0 ∷ Fixed word.Equals ∷ v) (digit_sound b.1 d.0 d.1 d.2)
+          ∙ ap (λ v. Fixed word.Reg ∷ Named a.0 ∷ Fixed word.Equals ∷ Fixed (digit_word d.0) ∷ v) (word_sound word.Semicolon d.1 f.0 f.1 f.2)
+          ∙ ap (λ v. Fixed word.Reg ∷ Named a.0 ∷ Fixed word.Equals ∷ Fixed (digit_word d.0) ∷ Fixed word.Semicolon ∷ v) (got_rest f.3),
     )
 
 -- the tokens of a value and its `;`
@@ -237,11 +240,12 @@ assign_sound ts us item rest e h =
     let b = bind_got (word_read word.Equals) _ a.1 item rest a.3 in
     let d = bind_got value_read _ b.1 item rest b.3 in
     let left : d.1 ≡ rest = got_rest d.3 in
-    let r = value_sound b.1 d.0 rest (d.2 ∙ ap (Got d.0) left) in
-    (
-      Assign a.0 r.tree, r.grouped, ap (Assign a.0) r.printed ∙ got_value d.3,
+    let r = value_sound b.1 d.0 rest (d.2 ∙ ap (Got d.0) left) in (
+      Assign a.0 r.tree,
+      r.grouped,
+      ap (Assign a.0) r.printed ∙ got_value d.3,
       e ∙ ap (λ v. Fixed word.Assign ∷ v) (name_sound us a.0 a.1 a.2) ∙ ap (λ v. Fixed word.Assign ∷ Named a.0 ∷ v) (word_sound word.Equals a.1 b.0 b.1 b.2)
-      ∙ ap (λ v. Fixed word.Assign ∷ Named a.0 ∷ Fixed word.Equals ∷ v) (value_split b.1 d.0 rest r),
+          ∙ ap (λ v. Fixed word.Assign ∷ Named a.0 ∷ Fixed word.Equals ∷ v) (value_split b.1 d.0 rest r),
     )
 
 abbrev clock_marks : Name → List Mark
@@ -269,13 +273,14 @@ always_sound ts us item rest e h =
     let d = bind_got (word_read word.Nonblocking) _ b.1 item rest b.3 in
     let f = bind_got value_read _ d.1 item rest d.3 in
     let left : f.1 ≡ rest = got_rest f.3 in
-    let r = value_sound d.1 f.0 rest (f.2 ∙ ap (Got f.0) left) in
-    (
-      Always a.0 b.0 r.tree, r.grouped, ap (Always a.0 b.0) r.printed ∙ got_value f.3,
+    let r = value_sound d.1 f.0 rest (f.2 ∙ ap (Got f.0) left) in (
+      Always a.0 b.0 r.tree,
+      r.grouped,
+      ap (Always a.0 b.0) r.printed ∙ got_value f.3,
       e ∙ ap (λ v. Fixed word.Always ∷ v) (clock_sound us a.0 a.1 a.2)
-      ∙ ap (λ v. Fixed word.Always ∷ (clock_marks a.0 ++ v)) (name_sound a.1 b.0 b.1 b.2)
-      ∙ ap (λ v. Fixed word.Always ∷ (clock_marks a.0 ++ Named b.0 ∷ v)) (word_sound word.Nonblocking b.1 d.0 d.1 d.2)
-      ∙ ap (λ v. Fixed word.Always ∷ (clock_marks a.0 ++ Named b.0 ∷ Fixed word.Nonblocking ∷ v)) (value_split d.1 f.0 rest r),
+          ∙ ap (λ v. Fixed word.Always ∷ (clock_marks a.0 ++ v)) (name_sound a.1 b.0 b.1 b.2)
+          ∙ ap (λ v. Fixed word.Always ∷ (clock_marks a.0 ++ Named b.0 ∷ v)) (word_sound word.Nonblocking b.1 d.0 d.1 d.2)
+          ∙ ap (λ v. Fixed word.Always ∷ (clock_marks a.0 ++ Named b.0 ∷ Fixed word.Nonblocking ∷ v)) (value_split d.1 f.0 rest r),
     )
 
 item_sound : (ts : List Mark) (item : Item (List Mark)) (rest : List Mark) → item_read ts ≡ Got item rest → ItemRead ts item rest
@@ -283,8 +288,8 @@ unfolding item_read
 item_sound ts item rest h =
     choice_got word.Wire wire_read ((word.Reg, register_read) ∷ (word.Assign, assign_read) ∷ (word.Always, always_read) ∷ []) ts item rest (ItemRead ts item rest) (λ us e f. wire_sound ts us item rest e f)
     (λ g. choice_got word.Reg register_read ((word.Assign, assign_read) ∷ (word.Always, always_read) ∷ []) ts item rest (ItemRead ts item rest) (λ us e f. register_sound ts us item rest e f)
-        (λ k. choice_got word.Assign assign_read ((word.Always, always_read) ∷ []) ts item rest (ItemRead ts item rest) (λ us e f. assign_sound ts us item rest e f)
-            (λ l. choice_got word.Always always_read [] ts item rest (ItemRead ts item rest) (λ us e f. always_sound ts us item rest e f) (λ f. cc) l) k) g)
+    (λ k. choice_got word.Assign assign_read ((word.Always, always_read) ∷ []) ts item rest (ItemRead ts item rest) (λ us e f. assign_sound ts us item rest e f)
+    (λ l. choice_got word.Always always_read [] ts item rest (ItemRead ts item rest) (λ us e f. always_sound ts us item rest e f) (λ f. cc) l) k) g)
     h
 
 item_prints : Prints item_read (item_marks value_marks) item_printed GoodItem
@@ -296,7 +301,7 @@ items_full items good rest = many_full word.Endmodule item_read (item_marks valu
 -- the tokens of a module, and others behind them
 regroup : (name : Name) (ports body rest : List Mark)
     → Fixed word.Module ∷ Named name ∷ Fixed word.Open ∷ (ports ++ Fixed word.Close ∷ Fixed word.Semicolon ∷ (body ++ Fixed word.Endmodule ∷ rest))
-      ≡ Fixed word.Module ∷ Named name ∷ Fixed word.Open ∷ (ports ++ Fixed word.Close ∷ Fixed word.Semicolon ∷ (body ++ Fixed word.Endmodule ∷ [])) ++ rest
+    ≡ Fixed word.Module ∷ Named name ∷ Fixed word.Open ∷ (ports ++ Fixed word.Close ∷ Fixed word.Semicolon ∷ (body ++ Fixed word.Endmodule ∷ [])) ++ rest
 regroup name ports body rest = simp append_assoc
 
 -- a module that was read

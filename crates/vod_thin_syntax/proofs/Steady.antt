@@ -116,11 +116,19 @@ name_refused (Fixed w) us ts h e other = refl
 name_stuck : (ts rest : List Mark) → name_read ts ≡ Refused rest → Stuck name_read ts rest
 name_stuck (Named name ∷ ts) rest h = cc
 name_stuck [] rest h = record {
-  front = []; split = refused_rest h; more = Named some_name ∷ []; value = some_name; goes = λ other. refl;
+  front = [];
+  split = refused_rest h;
+  more = Named some_name ∷ [];
+  value = some_name;
+  goes = λ other. refl;
   same = λ t us e. name_refused t us rest (subst (λ v. name_read v ≡ Refused v) (refused_rest h) refl) e;
 }
 name_stuck (Fixed w ∷ ts) rest h = record {
-  front = []; split = refused_rest h; more = Named some_name ∷ []; value = some_name; goes = λ other. refl;
+  front = [];
+  split = refused_rest h;
+  more = Named some_name ∷ [];
+  value = some_name;
+  goes = λ other. refl;
   same = λ t us e. name_refused t us rest (subst (λ v. name_read v ≡ Refused v) (refused_rest h) refl) e;
 }
 
@@ -177,17 +185,26 @@ choice_takes {A} entries all (Fixed v ∷ us) x rest h = by_picked (picked entri
     by_picked : (o : Option (Reader A)) → picked entries v ≡ o → chosen o v us ≡ Got x rest → (first : Mark) × (vs : List Mark) × (Fixed v ∷ us ≡ first ∷ vs) × Takes (λ ws. choice entries (first ∷ ws)) vs x rest
     by_picked None e f = cc
     by_picked (Some read) e f =
-        let p = (picked_steady entries all v read e).takes us x rest f in
-        (Fixed v, us, refl, record {
-          front = p.front; split = p.split;
-          same = λ other. choice_fixed entries v (p.front ++ other) ∙ ap (λ o. chosen o v (p.front ++ other)) e ∙ p.same other;
-        })
+        let p = (picked_steady entries all v read e).takes us x rest f in (
+          Fixed v,
+          us,
+          refl,
+          record {
+            front = p.front;
+            split = p.split;
+            same = λ other. choice_fixed entries v (p.front ++ other) ∙ ap (λ o. chosen o v (p.front ++ other)) e ∙ p.same other;
+          },
+        )
 
 -- the first token is none of the words
 stuck_at_first : {A : Type 0} (entries : List (Word × Reader A)) → Example (choice entries) → (ts rest : List Mark) → ts ≡ rest
     → ((t : Mark) (us : List Mark) → ts ≡ t ∷ us → (other : List Mark) → choice entries (t ∷ other) ≡ Refused (t ∷ other)) → Stuck (choice entries) ts rest
 stuck_at_first entries example ts rest e same = record {
-  front = []; split = e; more = example.marks; value = example.value; goes = example.goes;
+  front = [];
+  split = e;
+  more = example.marks;
+  value = example.value;
+  goes = example.goes;
   same = λ t us f other. same t us (e ∙ f) other;
 }
 
@@ -205,7 +222,10 @@ choice_stuck {A} entries example all (Fixed v ∷ us) rest h = by_picked (picked
     by_picked (Some read) e f =
         let p = (picked_steady entries all v read e).stuck us rest f in
         record {
-          front = Fixed v ∷ p.front; split = ap (λ w. Fixed v ∷ w) p.split; more = p.more; value = p.value;
+          front = Fixed v ∷ p.front;
+          split = ap (λ w. Fixed v ∷ w) p.split;
+          more = p.more;
+          value = p.value;
           goes = λ other. choice_fixed entries v (p.front ++ (p.more ++ other)) ∙ ap (λ o. chosen o v (p.front ++ (p.more ++ other))) e ∙ p.goes other;
           same = λ t vs g other. choice_fixed entries v (p.front ++ t ∷ other) ∙ ap (λ o. chosen o v (p.front ++ t ∷ other)) e ∙ p.same t vs g other;
         }
@@ -214,9 +234,9 @@ pub choice_steady : {A : Type 0} (entries : List (Word × Reader A)) → Example
 choice_steady entries example all = record {
   example = example;
   takes = λ ts x rest h. (
-    let p = choice_takes entries all ts x rest h in
-    let q = p.3 in
-    record { front = p.0 ∷ q.front; split = p.2 ∙ ap (λ v. p.0 ∷ v) q.split; same = q.same });
+      let p = choice_takes entries all ts x rest h in
+      let q = p.3 in
+      record { front = p.0 ∷ q.front; split = p.2 ∙ ap (λ v. p.0 ∷ v) q.split; same = q.same });
   stuck = λ ts rest h. choice_stuck entries example all ts rest h;
 }
 

@@ -197,7 +197,10 @@ some_place h = cc
 
 pub falls_before : {at : ℕ} {bytes : List ℕ} {ts : List Token} {stop : Option ℕ} → Falls at bytes ts stop → Before bytes at ts stop
 falls_before (ends at) = record {
-  inside = λ place e. cc; first = λ before t behind e. absurd (no_tokens before t behind e); earlier = λ place e before t behind f. cc; from = λ place e. cc;
+  inside = λ place e. cc;
+  first = λ before t behind e. absurd (no_tokens before t behind e);
+  earlier = λ place e before t behind f. cc;
+  from = λ place e. cc;
 }
 falls_before (skips at b bs ts stop white more) =
     let later = falls_before more in
@@ -229,6 +232,8 @@ falls_before (takes at text rest form ts stop holds of more) =
     by_earlier at text form ts place [] t behind later low e = let same : token at text form ≡ t = cc in let start : at ≡ t.start = ap (λ u. u.start) same in omega arith
     by_earlier at text form ts place (u ∷ before) t behind later low e = let same : ts ≡ before ++ t ∷ behind = cc in later before t behind same
 falls_before (stops at b bs dark none) = record {
-  inside = λ place e. (let same = some_place e in omega arith); first = λ before t behind e. absurd (no_tokens before t behind e);
-  earlier = λ place e before t behind f. absurd (no_tokens before t behind f); from = λ place e. (let same = some_place e in omega arith);
+  inside = λ place e. (let same = some_place e in omega arith);
+  first = λ before t behind e. absurd (no_tokens before t behind e);
+  earlier = λ place e before t behind f. absurd (no_tokens before t behind f);
+  from = λ place e. (let same = some_place e in omega arith);
 }

@@ -235,10 +235,15 @@ operand_ends b fs inverted name good all = (put_grouped b (Plain inverted name) 
 wants_onward : (b : Before) (fs : List Frame) (w : Word) (next : Scan) → after_word head.Operand w (length fs) ≡ Some next → Good (Wants b fs) → Onward (Wants b fs) (Fixed w) next
 unfolding state_marks frames_marks before_marks
 wants_onward b fs word.Not next e good = record {
-  state = Inverts b fs; scan = some_scan e; good = good; marks = sym (append_assoc (frames_marks fs) (before_marks b) (Fixed word.Not ∷ []));
+  state = Inverts b fs;
+  scan = some_scan e;
+  good = good;
+  marks = sym (append_assoc (frames_marks fs) (before_marks b) (Fixed word.Not ∷ []));
 }
 wants_onward b fs word.Open next e good = record {
-  state = Wants None ((b, false) ∷ fs); scan = ap (scan_at head.Operand) (sym (add-one (length fs))) ∙ some_scan e; good = (tt, good);
+  state = Wants None ((b, false) ∷ fs);
+  scan = ap (scan_at head.Operand) (sym (add-one (length fs))) ∙ some_scan e;
+  good = (tt, good);
   marks = append-nil (frames_marks fs ++ (before_marks b ++ Fixed word.Open ∷ [])) ∙ sym (append_assoc (frames_marks fs) (before_marks b) (Fixed word.Open ∷ []));
 }
 wants_onward b fs w next e good = cc
@@ -246,7 +251,9 @@ wants_onward b fs w next e good = cc
 inverts_onward : (b : Before) (fs : List Frame) (w : Word) (next : Scan) → after_word head.Inverted w (length fs) ≡ Some next → Good (Inverts b fs) → Onward (Inverts b fs) (Fixed w) next
 unfolding state_marks frames_marks before_marks
 inverts_onward b fs word.Open next e good = record {
-  state = Wants None ((b, true) ∷ fs); scan = ap (scan_at head.Operand) (sym (add-one (length fs))) ∙ some_scan e; good = (tt, good);
+  state = Wants None ((b, true) ∷ fs);
+  scan = ap (scan_at head.Operand) (sym (add-one (length fs))) ∙ some_scan e;
+  good = (tt, good);
   marks = append-nil (frames_marks fs ++ (before_marks b ++ Fixed word.Not ∷ Fixed word.Open ∷ [])) ∙ simp append_assoc;
 }
 inverts_onward b fs w next e good = cc
@@ -254,7 +261,10 @@ inverts_onward b fs w next e good = cc
 operator_onward : (v : Value) (fs : List Frame) (op : Operator) (next : Scan) → scan_at head.Operand (length fs) ≡ next → Good (Has v fs) → Onward (Has v fs) (Fixed (operator_word op)) next
 unfolding state_marks before_marks
 operator_onward v fs op next e good = record {
-  state = Wants (Some (v, op)) fs; scan = e; good = good; marks = sym (append_assoc (frames_marks fs) (value_marks v) (Fixed (operator_word op) ∷ []));
+  state = Wants (Some (v, op)) fs;
+  scan = e;
+  good = good;
+  marks = sym (append_assoc (frames_marks fs) (value_marks v) (Fixed (operator_word op) ∷ []));
 }
 
 close_onward : (v : Value) (fs : List Frame) (next : Scan) → after_word head.Behind word.Close (length fs) ≡ Some next → Good (Has v fs) → Onward (Has v fs) (Fixed word.Close) next
@@ -263,9 +273,11 @@ close_onward v [] next e good = cc
 close_onward v (f ∷ fs) next e good =
     let inside : Value = Group f.1 v in
     let marks : frames_marks fs ++ (before_marks f.0 ++ (tilde f.1 ++ Fixed word.Open ∷ (value_marks v ++ Fixed word.Close ∷ [])))
-        ≡ ((frames_marks fs ++ (before_marks f.0 ++ (tilde f.1 ++ Fixed word.Open ∷ []))) ++ value_marks v) ++ Fixed word.Close ∷ [] = simp append_assoc in
+    ≡ ((frames_marks fs ++ (before_marks f.0 ++ (tilde f.1 ++ Fixed word.Open ∷ []))) ++ value_marks v) ++ Fixed word.Close ∷ [] = simp append_assoc in
     record {
-      state = Has (put f.0 inside) fs; scan = some_scan e; good = (put_grouped f.0 inside good.1.0 good.0 refl, good.1.1);
+      state = Has (put f.0 inside) fs;
+      scan = some_scan e;
+      good = (put_grouped f.0 inside good.1.0 good.0 refl, good.1.1);
       marks = ap (λ w. frames_marks fs ++ w) (put_marks f.0 inside) ∙ marks;
     }
 
@@ -279,13 +291,17 @@ has_onward v fs w next e good = cc
 onward : (s : State) (t : Mark) (next : Scan) → after_mark t (state_scan s) ≡ Some next → Good s → Onward s t next
 unfolding state_marks
 onward (Wants b fs) (Named name) next e good = record {
-  state = Has (put b (Plain false name)) fs; scan = some_scan e; good = operand_ends b fs false name good.0 good.1;
+  state = Has (put b (Plain false name)) fs;
+  scan = some_scan e;
+  good = operand_ends b fs false name good.0 good.1;
   marks = ap (λ w. frames_marks fs ++ w) (put_marks b (Plain false name)) ∙ sym (append_assoc (frames_marks fs) (before_marks b) (Named name ∷ []));
 }
 onward (Inverts b fs) (Named name) next e good =
     let marks : frames_marks fs ++ (before_marks b ++ Fixed word.Not ∷ Named name ∷ []) ≡ (frames_marks fs ++ (before_marks b ++ Fixed word.Not ∷ [])) ++ Named name ∷ [] = simp append_assoc in
     record {
-      state = Has (put b (Plain true name)) fs; scan = some_scan e; good = operand_ends b fs true name good.0 good.1;
+      state = Has (put b (Plain true name)) fs;
+      scan = some_scan e;
+      good = operand_ends b fs true name good.0 good.1;
       marks = ap (λ w. frames_marks fs ++ w) (put_marks b (Plain true name)) ∙ marks;
     }
 onward (Has v fs) (Named name) next e good = cc
@@ -318,8 +334,8 @@ scan_sound : (ts : List Mark) (s : State) (sofar value rest : List Mark) → Goo
 scan_sound [] s sofar value rest good marks h = cc
 scan_sound (t ∷ ts) s sofar value rest good marks h =
     by_end (λ next e. (
-        let on = onward s t next e good in
-        λ k. scan_sound ts on.state (sofar ++ t ∷ []) value rest on.good (on.marks ∙ ap (λ v. v ++ t ∷ []) marks) (ap (λ n. scan_read n (sofar ++ t ∷ []) ts) on.scan ∙ k)))
+    let on = onward s t next e good in
+    λ k. scan_sound ts on.state (sofar ++ t ∷ []) value rest on.good (on.marks ∙ ap (λ v. v ++ t ∷ []) marks) (ap (λ n. scan_read n (sofar ++ t ∷ []) ts) on.scan ∙ k)))
     (ends (state_scan s) (t ∷ ts)) refl
   where
     by_next : (o : Option Scan) → after_mark t (state_scan s) ≡ o → ((next : Scan) → after_mark t (state_scan s) ≡ Some next → scan_read next (sofar ++ t ∷ []) ts ≡ Got value rest → ValueRead (sofar ++ t ∷ []) ts value rest)

@@ -6,4 +6,5 @@ pub mod Limit
 pub mod Refusal
 pub mod Scan
 pub mod Reader
+pub mod Outcome
 pub mod State

@@ -4,13 +4,17 @@
 mod fault;
 mod limit;
 mod parts;
+mod read;
 mod reader;
 mod scan;
 mod syntax;
+#[cfg(test)]
+mod tests;
 mod tokens;
 mod words;
 
 pub use fault::SyntaxFault;
+pub use read::{one_sentence, read_sentence};
 pub use syntax::{Direction, Item, Module, Port, Sentence, Span};
 pub use tokens::one_cut;
 pub use words::{Word, word_of};

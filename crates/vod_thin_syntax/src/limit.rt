@@ -32,10 +32,7 @@ pub(crate) fn first_past(
         crowded(source, b"wire", tokens),
         crowded(source, b"reg", tokens),
     );
-    Ok(sooner(
-        first_long(tokens),
-        sooner(deep, sooner(ports, signals)),
-    ))
+    Ok(sooner(first_long(tokens), sooner(deep, sooner(ports, signals))))
 }
 
 /// The lesser of two places, where there are any.

@@ -89,10 +89,8 @@ fn is_of_form(kind: TokenKind, text: &[u8]) -> bool
 {
     match kind {
         TokenKind::Name => true,
-        TokenKind::Reserved
-        | TokenKind::Number
-        | TokenKind::Directive
-        | TokenKind::Symbol => word_of(text).is_some(),
+        TokenKind::Reserved | TokenKind::Number | TokenKind::Directive | TokenKind::Symbol =>
+            word_of(text).is_some(),
     }
 }
 

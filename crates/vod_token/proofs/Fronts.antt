@@ -66,8 +66,7 @@ one_front text rest more after form other e h g =
     let a = holds_complete text rest form h in
     let b = holds_complete more after other g in
     let same : held form (length text) ≡ held other (length more) = sym a ∙ ap lexeme e ∙ b in
-    let len = held_len form other (length text) (length more) same in
-    (
+    let len = held_len form other (length text) (length more) same in (
       sym (take-append_seam text rest) ∙ ap (take (length text)) e ∙ ap (λ n. take n (more ++ after)) (sym len) ∙ take-append_seam more after,
       sym (drop-append_seam text rest) ∙ ap (drop (length text)) e ∙ ap (λ n. drop n (more ++ after)) (sym len) ∙ drop-append_seam more after,
       sym (held_form form other (length text) (length more) same),

@@ -18,7 +18,7 @@ returns-in_err-item c =
     let at : List Mark = left c.args.reader c.loop-reader.at in
     refusal_gives (item_of c.args.reader.source.now c.args.reader.tokens.now) _ c.from_residual.result p.0 c.in_err-item.field-0.0 _ _ _ p.1 p.2 c.in_err-item.ensures
     (λ us h. sym c.loop-reader.invariant
-        ∙ many_refused word.Endmodule item_read sofar at us (sym c.loop-reader-test.ensures.is) (ap item_read (sym c.loop-reader-test.ensures.goes) ∙ h))
+    ∙ many_refused word.Endmodule item_read sofar at us (sym c.loop-reader-test.ensures.is) (ap item_read (sym c.loop-reader-test.ensures.goes) ∙ h))
 
 pub loop-reader-smaller : goal.loop-reader-smaller
 loop-reader-smaller c =

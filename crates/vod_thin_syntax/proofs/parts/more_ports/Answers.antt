@@ -18,7 +18,7 @@ returns-in_err-port c =
     let at : List Mark = left c.args.reader c.loop-reader.at in
     refusal_gives (port_of c.args.reader.source.now) _ c.from_residual.result p.0 c.in_err-port.field-0.0 _ _ _ p.1 p.2 c.in_err-port.ensures
     (λ us h. sym c.loop-reader.invariant
-        ∙ many_refused word.Close next_port_read sofar at us (sym c.loop-reader-test.ensures.is) (ap next_port_read (sym c.loop-reader-test.ensures.goes) ∙ h))
+    ∙ many_refused word.Close next_port_read sofar at us (sym c.loop-reader-test.ensures.is) (ap next_port_read (sym c.loop-reader-test.ensures.goes) ∙ h))
 
 pub loop-reader-preserved : goal.loop-reader-preserved
 loop-reader-preserved c =
