@@ -6,3 +6,4 @@ pub mod Thin
 pub mod View
 pub mod Faults
 pub mod MachineView
+pub mod Tables

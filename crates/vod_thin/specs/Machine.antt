@@ -9,7 +9,7 @@ use Rattle.vod_thin.specs.declared.machine.Operator.{Operator}
 use Rattle.vod_thin.specs.declared.machine.Operator.TheVariants.{And, Xor, Or}
 use Rattle.vod_thin.specs.declared.machine.Frame.{Frame}
 use Rattle.vod_thin.specs.declared.machine.Frame.TheVariants.{Inverted, Opened, Left}
-use Rattle.vod_thin.specs.Signals.{Declared}
+use Rattle.vod_thin.specs.declared.names.Kind.{Kind}
 use Rattle.vod_thin.specs.Netlists.{number_of}
 
 pub record Machine : Type 0 where
@@ -69,11 +69,11 @@ on_word m word.Or = on_operator Or (reduce (tight Or) m.frames m.last)
 on_word m _ = m
 
 -- a token comes
-abbrev pub step : List Declared → Machine → Mark → Machine
+abbrev pub step : List (List ℕ × Kind) → Machine → Mark → Machine
 step signals m (Named name) = settled m.frames (expr.Signal (number_of signals name.bytes))
 step signals m (Fixed word) = on_word m word
 
-abbrev pub run : List Declared → Machine → List Mark → Machine
+abbrev pub run : List (List ℕ × Kind) → Machine → List Mark → Machine
 run signals m [] = m
 run signals m (mark ∷ marks) = run signals (step signals m mark) marks
 
@@ -85,5 +85,5 @@ abbrev pub last_of : Machine → Expr
 last_of m = m.last
 
 -- the expression that these tokens are
-abbrev pub read_expr : List Declared → List Mark → Expr
+abbrev pub read_expr : List (List ℕ × Kind) → List Mark → Expr
 read_expr signals marks = let m : Machine = run signals start marks in last_of (reduce 0 m.frames m.last)

@@ -35,6 +35,10 @@ declared ports items = map declared_port ports ++ flat_map declared_by items
 abbrev pub signals_of : {V : Type 0} → Module V → List Declared
 signals_of m = declared m.ports m.items
 
+-- their names and kinds
+abbrev pub entries : List Declared → List (List ℕ × Kind)
+entries signals = map (λ signal. (signal.name.bytes, signal.kind)) signals
+
 -- what a name was first declared as
 abbrev pub kind_of : List Declared → List ℕ → Option Kind
 kind_of [] bytes = None
@@ -43,6 +47,13 @@ kind_of (signal ∷ signals) bytes = if bytes_eq bytes signal.name.bytes then So
 -- whether a list of names has this one
 abbrev pub has_name : List Name → List ℕ → Bool
 has_name names bytes = list_any (λ other. bytes_eq bytes other.bytes) names
+
+-- the texts of names, and whether a list of texts has this one
+abbrev pub texts : List Name → List (List ℕ)
+texts names = map (λ name. name.bytes) names
+
+abbrev pub has_text : List (List ℕ) → List ℕ → Bool
+has_text held text = list_any (λ other. bytes_eq text other) held
 
 -- the target of an assign
 abbrev pub assigned_by : {V : Type 0} → Item V → List Name

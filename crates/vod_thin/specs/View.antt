@@ -1,19 +1,12 @@
 -- What the tables of the code hold.
-use Rattle.std.specs.Prelude.{◌≡◌, ℕ, Bool, List, [], ◌∷◌, ◌++◌, map, reverse, ◌×◌, Option, None, Some, if◌then◌else◌}
-use Rattle.std.specs.List.{list_any}
+use Rattle.std.specs.Prelude.{◌≡◌, ℕ, Bool, List, [], ◌∷◌, ◌++◌, slice_get, Option, None, Some, if◌then◌else◌}
 use Rattle.std.specs.Option.{is_some}
 use Rattle.std.specs.Str.{bytes_eq}
-use Rattle.vod_thin_syntax.specs.Syntax.{Name}
+use Rattle.vod_design.specs.declared.thin.Input.{Input}
+use Rattle.vod_design.specs.declared.thin.Initial.{Initial}
 use Rattle.vod_thin.specs.declared.names.Kind.{Kind}
-use Rattle.vod_thin.specs.Signals.{Declared, kind_of}
-
--- the texts of names
-abbrev pub texts : List Name → List (List ℕ)
-texts names = map (λ name. name.bytes) names
-
--- whether a list of texts has this one
-abbrev pub has_text : List (List ℕ) → List ℕ → Bool
-has_text held text = list_any (λ other. bytes_eq text other) held
+use Rattle.vod_thin.specs.Netlists.{input_of, initial_of}
+use Rattle.vod_thin.specs.Signals.{Declared, has_text}
 
 -- a text more, where it is new
 abbrev pub with_text : List (List ℕ) → List ℕ → List (List ℕ)
@@ -37,3 +30,18 @@ with_entry es text kind = if is_some (found es text) then es else es ++ (text, k
 abbrev pub first_entries : List (List ℕ × Kind) → List Declared → List (List ℕ × Kind)
 first_entries es [] = es
 first_entries es (signal ∷ signals) = first_entries (with_entry es signal.name.bytes signal.kind) signals
+
+-- what the signal with a number brings
+abbrev pub input_by : List (List ℕ) → ℕ → Option (List ℕ × Kind) → List Input
+input_by waited number None = []
+input_by waited number (Some e) = input_of waited number e.0 e.1
+
+abbrev pub input_at : List (List ℕ) → List (List ℕ × Kind) → ℕ → List Input
+input_at waited signals number = input_by waited number (slice_get signals number)
+
+abbrev pub initial_by : ℕ → Option (List ℕ × Kind) → List Initial
+initial_by number None = []
+initial_by number (Some e) = initial_of number e.1
+
+abbrev pub initial_at : List (List ℕ × Kind) → ℕ → List Initial
+initial_at signals number = initial_by number (slice_get signals number)

@@ -2,7 +2,12 @@
 #![tactic(auto)]
 
 mod fault;
+mod judge;
 mod machine;
 mod names;
+mod netlist;
+mod read;
+mod text;
 
 pub use fault::ThinFault;
+pub use read::{one_design, one_place, read_thin};

@@ -1,8 +1,9 @@
 //! Names that are found by their bytes.
-ghost use Rattle.std.specs.Prelude.{◌≡◌, [], is_some, map, position, length, IfOk, OnOk, Ok};
+ghost use Rattle.std.specs.Prelude.{◌≡◌, ◌<◌, [], Some, slice_get, length, IfOk, OnOk};
 ghost use Rattle.std.specs.List.{position_or_len};
 ghost use Rattle.std.specs.Str.{bytes_eq};
-ghost use Rattle.vod_thin.specs.View.{has_text, with_text, found, with_entry};
+ghost use Rattle.vod_thin.specs.Signals.{has_text};
+ghost use Rattle.vod_thin.specs.View.{with_text, found, with_entry};
 
 use indexmap::{IndexMap, IndexSet};
 use std::alloc::{AllocError, Global};
@@ -64,16 +65,16 @@ impl<'s> Names<'s> {
 /// Signals by their names: the kind of each, numbered in the order of their declarations. The first of a name counts.
 #[derive(Drop)]
 pub(crate) struct Signals<'s> {
-    map: IndexMap<&'s [u8], Kind>,
+    table: IndexMap<&'s [u8], Kind>,
 }
 
 impl<'s> Model for Signals<'s> {
-    ghost use Rattle.std.specs.Prelude.{List, ℕ, map, ◌×◌};
+    ghost use Rattle.std.specs.Prelude.{List, ℕ, map};
     ghost use Rattle.vod_thin.specs.declared.names.Kind.{Kind};
 
     ghost Value = { List (List ℕ × Kind) };
 
-    ghost view = { λ a. map (λ e. (e.0.now, e.1)) a.map.entries };
+    ghost view = { λ a. map (λ e. (e.0.now, e.1)) a.table.entries };
 }
 
 impl<'s> Signals<'s> {
@@ -82,7 +83,7 @@ impl<'s> Signals<'s> {
         ensures { IfOk result (λ signals. signals ≡ []) }
     {
         Ok(Signals {
-            map: IndexMap::with_capacity(alloc, count)?,
+            table: IndexMap::with_capacity(alloc, count)?,
         })
     }
 
@@ -90,8 +91,8 @@ impl<'s> Signals<'s> {
     pub(crate) fn add(&mut self, name: &'s [u8], kind: Kind) -> Result<(), AllocError>
         ensures { OnOk result (self.new ≡ with_entry self.old name.now kind) }
     {
-        if !self.map.contains_key(name) {
-            self.map.insert(name, kind)?;
+        if !self.table.contains_key(name) {
+            self.table.insert(name, kind)?;
         }
         Ok(())
     }
@@ -100,13 +101,31 @@ impl<'s> Signals<'s> {
     pub(crate) fn kind(&self, name: &[u8]) -> Option<Kind>
         ensures { result ≡ found self.now name.now }
     {
-        self.map.get(name).copied()
+        self.table.get(name).copied()
+    }
+
+    /// How many signals there are.
+    pub(crate) fn len(&self) -> usize
+        ensures { result ≡ length self.now }
+    {
+        self.table.len()
+    }
+
+    /// The name and the kind of a signal, by its number.
+    pub(crate) fn at(&self, number: usize) -> (&'s [u8], Kind)
+        requires { number < length self.now }
+        ensures { slice_get self.now number ≡ Some (result.0.now, result.1) }
+    {
+        match self.table.get_index(number) {
+            Some((name, kind)) => (*name, *kind),
+            None => unreachable!(),
+        }
     }
 
     /// The number of the signal with a name, or how many there are.
     pub(crate) fn number(&self, name: &[u8]) -> usize
         ensures { result ≡ position_or_len (λ e. bytes_eq name.now e.0) self.now }
     {
-        self.map.get_index_of(name).unwrap_or(self.map.len())
+        self.table.get_index_of(name).unwrap_or(self.table.len())
     }
 }
