@@ -1,0 +1,4 @@
+pub mod NameLemmas
+pub mod Leasts
+pub mod Rounds
+pub mod Matches

@@ -1,5 +1,5 @@
 -- What the code's tables say of the names of a module, and the offending places by them.
-use Rattle.std.specs.Prelude.{ℕ, ◌++◌, ◌&&◌, ◌||◌, Bool, false, not, List, [], ◌∷◌, Option, None, Some, option_map}
+use Rattle.std.specs.Prelude.{ℕ, ◌++◌, ◌&&◌, ◌||◌, Bool, false, not, List, [], ◌∷◌, Option, None, Some, option_map, if◌then◌else◌}
 use Rattle.std.specs.Option.{is_some}
 use Rattle.std.specs.Str.{bytes_eq}
 use Rattle.vod_thin_syntax.specs.Syntax.{Name, Mark, Item, Wire, Register, Assign, Always, Port}
@@ -28,6 +28,10 @@ tables_of j = record {
   updated = j.updated;
   clock = option_map (λ name. name.now) j.clock;
 }
+
+-- the place of a name that breaks a rule
+abbrev pub fault_at : Bool → ℕ → Option ℕ
+fault_at breaks place = if breaks then Some place else None
 
 abbrev pub declares_wrongly : Tables → List ℕ → Kind → Bool
 declares_wrongly t name kind = is_some (found t.signals name) || (is_net (Some kind) && not (has_text t.assigned name))

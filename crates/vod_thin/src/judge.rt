@@ -7,7 +7,7 @@ ghost use Rattle.vod_thin_syntax.specs.declared.syntax.Item.TheVariants as item;
 ghost use Rattle.vod_thin_syntax.specs.View.{name_of, mark_of, marks_of, marks_in, port_of, item_of, module_of};
 ghost use Rattle.vod_thin.specs.Signals.{clocks, texts, port_kind, names_in, is_input, is_net, is_register, signals_of};
 ghost use Rattle.vod_thin.specs.Rules.{least, place_if, places_where, is_readable, faults};
-ghost use Rattle.vod_thin.specs.Tables.{tables_of, with_always, declares_wrongly, assigns_wrongly, differs, waits_wrongly, updates_wrongly, reads_wrongly, read_places, port_places, item_places, with_signal, with_port, first_of, with_item, with_ports, with_items, all_port_places, all_item_places, with_uses, with_all_uses, no_tables};
+ghost use Rattle.vod_thin.specs.Tables.{tables_of, fault_at, with_always, declares_wrongly, assigns_wrongly, differs, waits_wrongly, updates_wrongly, reads_wrongly, read_places, port_places, item_places, with_signal, with_port, first_of, with_item, with_ports, with_items, all_port_places, all_item_places, with_uses, with_all_uses, no_tables};
 ghost use Rattle.vod_thin.specs.View.{first_entries, distinct};
 
 use crate::names::{Kind, Names, Signals};
@@ -41,7 +41,7 @@ pub(crate) fn sooner(a: Option<u32>, b: Option<u32>) -> Option<u32>
 
 // Where a token begins, if it breaks a rule.
 fn place_if(breaks: bool, token: Token) -> Option<u32>
-    ensures { (source : List ℕ) → result ≡ least (place_if breaks (name_of source token)) }
+    ensures { result ≡ fault_at breaks token.start }
 {
     if breaks { Some(token.start) } else { None }
 }
@@ -150,8 +150,9 @@ impl<'s> Judge<'s> {
     }
 
     // The first name among tokens that no expression may read here.
-    fn read_fault(&self, text: Text<'s>, tokens: &[Token]) -> Option<u32>
-        ensures { result ≡ least (read_places (tables_of self.now) (marks_of text.source.now tokens.now)) }
+    #[tactic(auto, using(crate::proofs::Leasts::read_more, crate::proofs::Leasts::sooner_none))]
+    fn read_fault(&self, text: &Text<'s>, tokens: &[Token]) -> Option<u32>
+        ensures { result ≡ least (read_places (tables_of self.now) (marks_of text.now.source.now tokens.now)) }
     {
         let mut first = None;
         for token in tokens {
@@ -161,8 +162,8 @@ impl<'s> Judge<'s> {
     }
 
     // A token, if it is a name that no expression may read here.
-    fn token_fault(&self, text: Text<'s>, token: Token) -> Option<u32>
-        ensures { result ≡ least (read_places (tables_of self.now) (mark_of text.source.now token ∷ [])) }
+    fn token_fault(&self, text: &Text<'s>, token: Token) -> Option<u32>
+        ensures { result ≡ least (read_places (tables_of self.now) (mark_of text.now.source.now token ∷ [])) }
     {
         let bytes = text.bytes(token);
         if word_of(bytes).is_some() {
@@ -171,14 +172,15 @@ impl<'s> Judge<'s> {
         place_if(self.reads_wrongly(bytes), token)
     }
 
-    fn signal_fault(&self, text: Text<'s>, name: Token, kind: Kind) -> Option<u32>
-        ensures { result ≡ least (place_if (declares_wrongly (tables_of self.now) (slice_of text.source.now name) kind) (name_of text.source.now name)) }
+    fn signal_fault(&self, text: &Text<'s>, name: Token, kind: Kind) -> Option<u32>
+        ensures { result ≡ least (place_if (declares_wrongly (tables_of self.now) (slice_of text.now.source.now name) kind) (name_of text.now.source.now name)) }
     {
         place_if(self.declares_wrongly(text.bytes(name), kind), name)
     }
 
-    fn assign_fault(&self, text: Text<'s>, target: Token, value: Span) -> Option<u32>
-        ensures { result ≡ least (item_places (tables_of self.now) (item_of text.source.now text.tokens.now (item.Assign target value))) }
+    #[tactic(auto, using(crate::proofs::Leasts::least_append, crate::proofs::Leasts::fault_least))]
+    fn assign_fault(&self, text: &Text<'s>, target: Token, value: Span) -> Option<u32>
+        ensures { result ≡ least (item_places (tables_of self.now) (item_of text.now.source.now text.now.tokens.now (item.Assign target value))) }
     {
         let wrong = self.assigns_wrongly(text.bytes(target));
         sooner(
@@ -187,14 +189,15 @@ impl<'s> Judge<'s> {
         )
     }
 
+    #[tactic(auto, using(crate::proofs::Leasts::least_append, crate::proofs::Leasts::fault_least))]
     fn always_fault(
         &self,
-        text: Text<'s>,
+        text: &Text<'s>,
         clock: Token,
         register: Token,
         value: Span,
     ) -> Option<u32>
-        ensures { result ≡ least (item_places (tables_of self.now) (item_of text.source.now text.tokens.now (item.Always clock register value))) }
+        ensures { result ≡ least (item_places (tables_of self.now) (item_of text.now.source.now text.now.tokens.now (item.Always clock register value))) }
     {
         let waits = self.waits_wrongly(text.bytes(clock));
         let updates = self.updates_wrongly(text.bytes(register));
@@ -205,8 +208,8 @@ impl<'s> Judge<'s> {
     }
 
     // The first name of an item that breaks a rule.
-    fn item_fault(&self, text: Text<'s>, item: &Item) -> Option<u32>
-        ensures { result ≡ least (item_places (tables_of self.now) (item_of text.source.now text.tokens.now item.now)) }
+    fn item_fault(&self, text: &Text<'s>, item: &Item) -> Option<u32>
+        ensures { result ≡ least (item_places (tables_of self.now) (item_of text.now.source.now text.now.tokens.now item.now)) }
     {
         match item {
             Item::Wire { name } => self.signal_fault(text, *name, Kind::Wire),
@@ -223,21 +226,21 @@ impl<'s> Judge<'s> {
     }
 
     // A name that is that of a port breaks a rule.
-    fn port_fault(&self, text: Text<'s>, port: &Port) -> Option<u32>
-        ensures { result ≡ least (port_places (tables_of self.now) (port_of text.source.now port.now)) }
+    fn port_fault(&self, text: &Text<'s>, port: &Port) -> Option<u32>
+        ensures { result ≡ least (port_places (tables_of self.now) (port_of text.now.source.now port.now)) }
     {
         self.signal_fault(text, port.name, port_kind(port.direction))
     }
 
-    fn add_port(&mut self, text: Text<'s>, port: &Port) -> Result<(), AllocError>
-        ensures { OnOk result (tables_of self.new ≡ with_port (tables_of self.old) (port_of text.source.now port.now)) }
+    fn add_port(&mut self, text: &Text<'s>, port: &Port) -> Result<(), AllocError>
+        ensures { OnOk result (tables_of self.new ≡ with_port (tables_of self.old) (port_of text.now.source.now port.now)) }
     {
         self.signals
             .add(text.bytes(port.name), port_kind(port.direction))
     }
 
-    fn add_item(&mut self, text: Text<'s>, item: &Item) -> Result<(), AllocError>
-        ensures { OnOk result (tables_of self.new ≡ with_item (tables_of self.old) (item_of text.source.now text.tokens.now item.now)) }
+    fn add_item(&mut self, text: &Text<'s>, item: &Item) -> Result<(), AllocError>
+        ensures { OnOk result (tables_of self.new ≡ with_item (tables_of self.old) (item_of text.now.source.now text.now.tokens.now item.now)) }
     {
         match item {
             Item::Wire { name } => self.signals.add(text.bytes(*name), Kind::Wire),
@@ -260,8 +263,8 @@ impl<'s> Judge<'s> {
     }
 
     // The clock or the target of an item, which stands for all of the module.
-    fn add_uses(&mut self, text: Text<'s>, item: &Item) -> Result<(), AllocError>
-        ensures { OnOk result (tables_of self.new ≡ with_uses (tables_of self.old) (item_of text.source.now text.tokens.now item.now)) }
+    fn add_uses(&mut self, text: &Text<'s>, item: &Item) -> Result<(), AllocError>
+        ensures { OnOk result (tables_of self.new ≡ with_uses (tables_of self.old) (item_of text.now.source.now text.now.tokens.now item.now)) }
     {
         match item {
             Item::Wire { .. } | Item::Register { .. } => Ok(()),
@@ -271,8 +274,8 @@ impl<'s> Judge<'s> {
     }
 
     // The clocks and the targets of all items.
-    fn add_all_uses(&mut self, text: Text<'s>, items: &[Item]) -> Result<(), AllocError>
-        ensures { OnOk result (tables_of self.new ≡ with_all_uses (tables_of self.old) (map (item_of text.source.now text.tokens.now) items.now)) }
+    fn add_all_uses(&mut self, text: &Text<'s>, items: &[Item]) -> Result<(), AllocError>
+        ensures { OnOk result (tables_of self.new ≡ with_all_uses (tables_of self.old) (map (item_of text.now.source.now text.now.tokens.now) items.now)) }
     {
         for item in items {
             self.add_uses(text, item)?;
@@ -281,9 +284,10 @@ impl<'s> Judge<'s> {
     }
 
     // The first of the ports' names that breaks a rule.
-    fn judge_ports(&mut self, text: Text<'s>, ports: &[Port]) -> Result<Option<u32>, AllocError>
-        ensures first { IfOk result (λ first. first ≡ least (all_port_places (tables_of self.old) (map (port_of text.source.now) ports.now))) }
-        ensures tables { OnOk result (tables_of self.new ≡ with_ports (tables_of self.old) (map (port_of text.source.now) ports.now)) }
+    #[tactic(auto, using(crate::proofs::Leasts::least_more, crate::proofs::Leasts::sooner_none))]
+    fn judge_ports(&mut self, text: &Text<'s>, ports: &[Port]) -> Result<Option<u32>, AllocError>
+        ensures first { IfOk result (λ first. first ≡ least (all_port_places (tables_of self.old) (map (port_of text.now.source.now) ports.now))) }
+        ensures tables { OnOk result (tables_of self.new ≡ with_ports (tables_of self.old) (map (port_of text.now.source.now) ports.now)) }
     {
         let mut first = None;
         for port in ports {
@@ -294,9 +298,10 @@ impl<'s> Judge<'s> {
     }
 
     // The first of the items' names that breaks a rule.
-    fn judge_items(&mut self, text: Text<'s>, items: &[Item]) -> Result<Option<u32>, AllocError>
-        ensures first { IfOk result (λ first. first ≡ least (all_item_places (tables_of self.old) (map (item_of text.source.now text.tokens.now) items.now))) }
-        ensures tables { OnOk result (tables_of self.new ≡ with_items (tables_of self.old) (map (item_of text.source.now text.tokens.now) items.now)) }
+    #[tactic(auto, using(crate::proofs::Leasts::least_more, crate::proofs::Leasts::sooner_none))]
+    fn judge_items(&mut self, text: &Text<'s>, items: &[Item]) -> Result<Option<u32>, AllocError>
+        ensures first { IfOk result (λ first. first ≡ least (all_item_places (tables_of self.old) (map (item_of text.now.source.now text.now.tokens.now) items.now))) }
+        ensures tables { OnOk result (tables_of self.new ≡ with_items (tables_of self.old) (map (item_of text.now.source.now text.now.tokens.now) items.now)) }
     {
         let mut first = None;
         for item in items {
@@ -317,12 +322,12 @@ pub(crate) struct Judged<'s> {
 /// Judges the names of a module.
 pub(crate) fn judge_names<'s>(
     alloc: Global,
-    text: Text<'s>,
+    text: &Text<'s>,
     parsed: &Module,
 ) -> Result<Judged<'s>, AllocError>
-    ensures fault { IfOk result (λ judged. judged.fault ≡ least (faults (module_of text.source.now text.tokens.now parsed.now))) }
-    ensures signals { IfOk result (λ judged. judged.names.signals ≡ first_entries [] (signals_of (module_of text.source.now text.tokens.now parsed.now))) }
-    ensures clocks { IfOk result (λ judged. judged.names.clocks ≡ distinct [] (texts (clocks (module_of text.source.now text.tokens.now parsed.now).items))) }
+    ensures fault { IfOk result (λ judged. judged.fault ≡ least (faults (module_of text.now.source.now text.now.tokens.now parsed.now))) }
+    ensures signals { IfOk result (λ judged. judged.names.signals ≡ first_entries [] (signals_of (module_of text.now.source.now text.now.tokens.now parsed.now))) }
+    ensures clocks { IfOk result (λ judged. judged.names.clocks ≡ distinct [] (texts (clocks (module_of text.now.source.now text.now.tokens.now parsed.now).items))) }
 {
     let mut names = Judge::with_room(alloc, parsed.ports.len(), parsed.items.len())?;
     names.add_all_uses(text, &parsed.items)?;

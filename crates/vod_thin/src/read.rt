@@ -70,7 +70,7 @@ fn read(alloc: Global, source: &[u8], more: bool) -> Result<Design, ThinFault>
         source,
         tokens: &sentence.tokens,
     };
-    let judged = judge_names(alloc, text, &sentence.module)?;
+    let judged = judge_names(alloc, &text, &sentence.module)?;
     if let Some(place) = sooner(sentence.limit, judged.fault) {
         return Err(ThinFault::At(place));
     }
