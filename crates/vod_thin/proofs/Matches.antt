@@ -16,7 +16,7 @@ use Rattle.vod_thin.specs.Tables.{Tables, declares_wrongly, assigns_wrongly, dif
 use Rattle.vod_thin.specs.View.{with_text, distinct, with_entry, first_entries, found}
 
 -- the first of two
-or_kind : Option Kind → Option Kind → Option Kind
+abbrev pub or_kind : Option Kind → Option Kind → Option Kind
 or_kind None other = other
 or_kind (Some kind) other = Some kind
 
@@ -24,7 +24,7 @@ or_none : (a : Option Kind) → or_kind a None ≡ a
 or_none None = refl
 or_none (Some kind) = refl
 
-if_same : List ℕ → List ℕ → Kind → Option Kind
+abbrev pub if_same : List ℕ → List ℕ → Kind → Option Kind
 if_same text name kind = if bytes_eq text name then Some kind else None
 
 kind_of-append : (signals more : List Declared) (text : List ℕ) → kind_of (signals ++ more) text ≡ or_kind (kind_of signals text) (kind_of more text)
@@ -86,7 +86,7 @@ name_more names name text = list_any-append (λ (other : Name). bytes_eq text ot
     or_false true = refl
     or_false false = refl
 
-head_text : List Name → Option (List ℕ)
+abbrev pub head_text : List Name → Option (List ℕ)
 head_text [] = None
 head_text (name ∷ names) = Some name.bytes
 
@@ -230,7 +230,7 @@ pub port_more : (m : Module (List Mark)) (ports : List Port) (t : Tables) (port 
 port_more m ports t port h = record {
   clocks_are = h.clocks_are;
   assigned_are = h.assigned_are;
-  signals_are = λ text. signal_more t.signals (declared ports []) (declared_port port) h.signals_are text ∙ ap (λ ds. kind_of ds text) (sym more);
+  signals_are = λ text. signal_more t.signals (declared ports none) (declared_port port) h.signals_are text ∙ ap (λ ds. kind_of ds text) (sym more);
   driven_are = h.driven_are;
   updated_are = h.updated_are;
   clock_is = h.clock_is;

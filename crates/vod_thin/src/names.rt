@@ -1,5 +1,5 @@
 //! Names that are found by their bytes.
-ghost use Rattle.std.specs.Prelude.{◌≡◌, ◌<◌, [], Some, slice_get, length, IfOk, OnOk};
+ghost use Rattle.std.specs.Prelude.{◌≡◌, ◌<◌, ◌≤◌, [], Some, slice_get, length, IfOk, OnOk};
 ghost use Rattle.std.specs.List.{position_or_len};
 ghost use Rattle.std.specs.Str.{bytes_eq};
 ghost use Rattle.vod_thin.specs.Signals.{has_text};
@@ -124,7 +124,8 @@ impl<'s> Signals<'s> {
 
     /// The number of the signal with a name, or how many there are.
     pub(crate) fn number(&self, name: &[u8]) -> usize
-        ensures { result ≡ position_or_len (λ e. bytes_eq name.now e.0) self.now }
+        ensures number { result ≡ position_or_len (λ e. bytes_eq name.now e.0) self.now }
+        ensures within { result ≤ length self.now }
     {
         self.table.get_index_of(name).unwrap_or(self.table.len())
     }

@@ -162,6 +162,7 @@ impl<'a, 's> Builder<'a, 's> {
         })
     }
 
+    #[tactic(auto, using(crate::proofs::Brought::take_got))]
     fn signals(&self) -> Result<Vec<Signal>, AllocError>
         ensures { IfOk result (λ signals. signals.items ≡ map signal_of self.now.signals.now) }
     {
@@ -188,6 +189,7 @@ impl<'a, 's> Builder<'a, 's> {
         Ok(())
     }
 
+    #[tactic(auto, using(crate::proofs::Brought::input_round))]
     fn inputs(&self) -> Result<Vec<Input>, AllocError>
         requires few { length self.now.signals.now ≤ 2 ^ 25 }
         ensures { IfOk result (λ inputs. inputs.items ≡ inputs_of self.now.clocks.now self.now.signals.now) }
@@ -214,6 +216,7 @@ impl<'a, 's> Builder<'a, 's> {
         Ok(())
     }
 
+    #[tactic(auto, using(crate::proofs::Brought::initial_round))]
     fn initials(&self) -> Result<Vec<Initial>, AllocError>
         requires few { length self.now.signals.now ≤ 2 ^ 25 }
         ensures { IfOk result (λ initials. initials.items ≡ initials_of self.now.signals.now) }
