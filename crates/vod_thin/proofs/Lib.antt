@@ -4,3 +4,11 @@ pub mod Rounds
 pub mod Matches
 pub mod Brought
 pub mod Readings
+pub mod ReadLaws
+pub mod Numbers
+pub mod Good
+pub mod Named
+pub mod Accepted
+pub mod Whole
+pub mod Plain
+pub mod Made

@@ -27,7 +27,7 @@ or_none (Some kind) = refl
 abbrev pub if_same : List ℕ → List ℕ → Kind → Option Kind
 if_same text name kind = if bytes_eq text name then Some kind else None
 
-kind_of-append : (signals more : List Declared) (text : List ℕ) → kind_of (signals ++ more) text ≡ or_kind (kind_of signals text) (kind_of more text)
+pub kind_of-append : (signals more : List Declared) (text : List ℕ) → kind_of (signals ++ more) text ≡ or_kind (kind_of signals text) (kind_of more text)
 kind_of-append [] more text = refl
 kind_of-append (signal ∷ signals) more text = by (bytes_eq text signal.name.bytes) (kind_of-append signals more text)
   where
@@ -46,7 +46,7 @@ found-append (e ∷ es) name k text = by (bytes_eq text e.0) (found-append es na
     by false e = e
 
 -- a signal more
-found_more : (es : List (List ℕ × Kind)) (name : List ℕ) (k : Kind) (text : List ℕ) → found (with_entry es name k) text ≡ or_kind (found es text) (if_same text name k)
+pub found_more : (es : List (List ℕ × Kind)) (name : List ℕ) (k : Kind) (text : List ℕ) → found (with_entry es name k) text ≡ or_kind (found es text) (if_same text name k)
 found_more es name k text = by (found es name) refl
   where
     other : (f : Option Kind) → found es name ≡ f → is_some f ≡ true → (b : Bool) → bytes_eq text name ≡ b → found es text ≡ or_kind (found es text) (if b then Some k else None)
@@ -62,7 +62,7 @@ found_more es name k text = by (found es name) refl
     by (Some old) e = other (Some old) e refl (bytes_eq text name) refl
 
 -- a text more
-text_more : (held : List (List ℕ)) (name text : List ℕ) → has_text (with_text held name) text ≡ (has_text held text || bytes_eq text name)
+pub text_more : (held : List (List ℕ)) (name text : List ℕ) → has_text (with_text held name) text ≡ (has_text held text || bytes_eq text name)
 text_more held name text = by (has_text held name) refl
   where
     or_false : (b : Bool) → (b || false) ≡ b
@@ -79,7 +79,7 @@ text_more held name text = by (has_text held name) refl
     by true e = other e (bytes_eq text name) refl
     by false e = list_any-append (bytes_eq text) held (name ∷ []) ∙ ap (λ b. has_text held text || b) (or_false (bytes_eq text name))
 
-name_more : (names : List Name) (name : Name) (text : List ℕ) → has_name (names ++ name ∷ []) text ≡ (has_name names text || bytes_eq text name.bytes)
+pub name_more : (names : List Name) (name : Name) (text : List ℕ) → has_name (names ++ name ∷ []) text ≡ (has_name names text || bytes_eq text name.bytes)
 name_more names name text = list_any-append (λ (other : Name). bytes_eq text other.bytes) names (name ∷ []) ∙ ap (λ b. has_name names text || b) (or_false (bytes_eq text name.bytes))
   where
     or_false : (b : Bool) → (b || false) ≡ b
@@ -166,19 +166,19 @@ module _ {m : Module (List Mark)} {earlier : List (Item (List Mark))} {t : Table
       ∙ append_assoc first second reads
 
 -- the lists of one item more
-declared_more : (ports : List Port) (earlier : List (Item (List Mark))) (item : Item (List Mark)) → declared ports (earlier ++ item ∷ []) ≡ declared ports earlier ++ declared_by item
+pub declared_more : (ports : List Port) (earlier : List (Item (List Mark))) (item : Item (List Mark)) → declared ports (earlier ++ item ∷ []) ≡ declared ports earlier ++ declared_by item
 declared_more ports earlier item =
     ap (λ ds. map declared_port ports ++ ds) (flat_map-append declared_by earlier (item ∷ []) ∙ ap (λ ds. flat_map declared_by earlier ++ ds) (append-nil (declared_by item)))
     ∙ sym (append_assoc (map declared_port ports) (flat_map declared_by earlier) (declared_by item))
 
-brought_more : (f : Item (List Mark) → List Name) (earlier : List (Item (List Mark))) (item : Item (List Mark)) → flat_map f (earlier ++ item ∷ []) ≡ flat_map f earlier ++ f item
+pub brought_more : (f : Item (List Mark) → List Name) (earlier : List (Item (List Mark))) (item : Item (List Mark)) → flat_map f (earlier ++ item ∷ []) ≡ flat_map f earlier ++ f item
 brought_more f earlier item = flat_map-append f earlier (item ∷ []) ∙ ap (λ ns. flat_map f earlier ++ ns) (append-nil (f item))
 
-none_more : (f : Item (List Mark) → List Name) (earlier : List (Item (List Mark))) (item : Item (List Mark)) → f item ≡ [] → flat_map f (earlier ++ item ∷ []) ≡ flat_map f earlier
+pub none_more : (f : Item (List Mark) → List Name) (earlier : List (Item (List Mark))) (item : Item (List Mark)) → f item ≡ [] → flat_map f (earlier ++ item ∷ []) ≡ flat_map f earlier
 none_more f earlier item e = brought_more f earlier item ∙ ap (λ ns. flat_map f earlier ++ ns) e ∙ append-nil (flat_map f earlier)
 
 -- a signal more among the tables
-signal_more : (es : List (List ℕ × Kind)) (ds : List Declared) (signal : Declared) → ((text : List ℕ) → found es text ≡ kind_of ds text)
+pub signal_more : (es : List (List ℕ × Kind)) (ds : List Declared) (signal : Declared) → ((text : List ℕ) → found es text ≡ kind_of ds text)
     → (text : List ℕ) → found (with_entry es signal.name.bytes signal.kind) text ≡ kind_of (ds ++ signal ∷ []) text
 signal_more es ds signal h text =
     found_more es signal.name.bytes signal.kind text ∙ ap (λ o. or_kind o (if_same text signal.name.bytes signal.kind)) (h text) ∙ sym (kind_of-append ds (signal ∷ []) text)
