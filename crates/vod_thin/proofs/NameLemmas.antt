@@ -1,13 +1,17 @@
 -- Names by their texts: what a table of them answers, and a table that grows.
-use Rattle.std.proofs.Common.{◌≡◌, ◌≢◌, ℕ, ◌<◌, ◌+◌, arith, List, [], ◌∷◌, ◌++◌, length, map, get_or, take, refl, sym, ap, ◌∙◌, subst, true, false, not, Bool, cond, position, AllPairs, ◌||◌, length-take}
+use Rattle.std.proofs.Common.{◌≡◌, ℕ, ◌+◌, List, [], ◌∷◌, ◌++◌, length, map, refl, sym, ap, ◌∙◌, true, false, not, Bool, cond, position, ◌||◌, if◌then◌else◌, Option, None, Some, ◌≤◌, arith, nat_lt}
 use Rattle.std.specs.Borrow.{Bor}
 use Rattle.std.specs.List.{position_or_len, list_any, prefix_len}
+use Rattle.std.specs.Map.{keys_of, lookup}
+use Rattle.std.specs.Option.{is_some, unwrap_or}
 use Rattle.std.specs.Str.{bytes_eq}
-use Rattle.std.proofs.lemmas.List.{length-map, get_or-map, get_or-take, map_push, take_more, take-map}
-use Rattle.std.proofs.lemmas.List.Quantifiers.{all_pairs_push}
-use Rattle.std.proofs.lemmas.List.Folds.{list_any_at, Any-from_list_any}
-use Rattle.std.proofs.lemmas.Slice.Eq.{bytes_eq-Decides}
-use Rattle.vod_thin.specs.Thin.{names}
+use Rattle.std.proofs.lemmas.Bool.Decides.{nat_tests}
+use Rattle.std.proofs.lemmas.List.Sums.{prefix_len-le-length}
+use Rattle.indexmap.specs.IndexMap.{insert_entry}
+use Rattle.std.proofs.lemmas.List.{length-map, map_push}
+use Rattle.vod_thin.specs.declared.names.Kind.{Kind}
+use Rattle.vod_thin.specs.Signals.{has_text}
+use Rattle.vod_thin.specs.View.{with_text, found, with_entry}
 
 -- a test of the elements that a list is mapped to
 pub list_any-map : {X Y : Type 0} (p : Y → Bool) (f : X → Y) (xs : List X) → list_any p (map f xs) ≡ list_any (λ x. p (f x)) xs
@@ -18,69 +22,69 @@ pub prefix_len-map : {X Y : Type 0} (p : Y → Bool) (f : X → Y) (xs : List X)
 prefix_len-map p f [] = refl
 prefix_len-map p f (x ∷ xs) = ap (λ n. cond (p (f x)) (1 + n) 0) (prefix_len-map p f xs)
 
-pub position-map : {X Y : Type 0} (p : Y → Bool) (f : X → Y) (xs : List X) → position p (map f xs) ≡ position (λ x. p (f x)) xs
-position-map p f xs =
-    let at : position_or_len p (map f xs) ≡ position_or_len (λ x. p (f x)) xs = prefix_len-map (λ y. not (p y)) f xs in
-    rw (at, length-map xs f) refl
+abbrev pub now_of : Bor (List ℕ) → List ℕ
+now_of k = k.now
 
 -- a table has a name where one of its keys is of this text
-pub key_named : (name : List ℕ) (keys : List (Bor (List ℕ))) → list_any (λ (k : Bor (List ℕ)). bytes_eq name k.now) keys ≡ names (map (λ (k : Bor (List ℕ)). k.now) keys) name
-key_named name keys = sym (list_any-map (λ (n : List ℕ). bytes_eq name n) (λ (k : Bor (List ℕ)). k.now) keys)
+pub key_named : (name : List ℕ) (keys : List (Bor (List ℕ))) → list_any (λ (k : Bor (List ℕ)). bytes_eq name k.now) keys ≡ has_text (map now_of keys) name
+key_named name keys = sym (list_any-map (λ (n : List ℕ). bytes_eq name n) now_of keys)
 
-pub key_place : (name : List ℕ) (keys : List (Bor (List ℕ))) → position (λ (k : Bor (List ℕ)). bytes_eq name k.now) keys ≡ position (λ (n : List ℕ). bytes_eq name n) (map (λ (k : Bor (List ℕ)). k.now) keys)
-key_place name keys = sym (position-map (λ (n : List ℕ). bytes_eq name n) (λ (k : Bor (List ℕ)). k.now) keys)
+-- a key more, where it is new
+pub key_added : (name : Bor (List ℕ)) (keys : List (Bor (List ℕ)))
+    → map now_of (if list_any (λ (k : Bor (List ℕ)). bytes_eq name.now k.now) keys then keys else keys ++ name ∷ []) ≡ with_text (map now_of keys) name.now
+key_added name keys = by_test (list_any (λ (k : Bor (List ℕ)). bytes_eq name.now k.now) keys) (has_text (map now_of keys) name.now) (key_named name.now keys)
+  where
+    by_test : (a b : Bool) → a ≡ b → map now_of (if a then keys else keys ++ name ∷ []) ≡ (if b then map now_of keys else map now_of keys ++ name.now ∷ [])
+    by_test true true e = refl
+    by_test true false e = cc
+    by_test false true e = cc
+    by_test false false e = map_push now_of keys name
 
-pub not_true : (a b : Bool) → a ≡ not b → a ≡ true → b ≡ false
-not_true a true e h = cc
-not_true a false e h = refl
+-- a table of signals, by their texts
+abbrev pub entry_of : Bor (List ℕ) × Kind → List ℕ × Kind
+entry_of e = (e.0.now, e.1)
 
-pub not_false : (a b : Bool) → a ≡ not b → a ≡ false → b ≡ true
-not_false a true e h = refl
-not_false a false e h = cc
+pub kind_found : (name : List ℕ) (es : List (Bor (List ℕ) × Kind)) → lookup (λ (k : Bor (List ℕ)). bytes_eq name k.now) es ≡ found (map entry_of es) name
+kind_found name [] = refl
+kind_found name (e ∷ es) = ap (λ o. cond (bytes_eq name e.0.now) (Some e.1) o) (kind_found name es)
 
--- what a table answers to a new name says whether it had it
-pub had_it : (name : List ℕ) (keys : List (Bor (List ℕ))) (held : List (List ℕ)) (added : Bool) → map (λ (k : Bor (List ℕ)). k.now) keys ≡ held
-    → added ≡ not (list_any (λ (k : Bor (List ℕ)). bytes_eq name k.now) keys) → added ≡ false → names held name ≡ true
-had_it name keys held added e h f = ap (λ (ns : List (List ℕ)). names ns name) (sym e) ∙ sym (key_named name keys) ∙ not_false added (list_any (λ (k : Bor (List ℕ)). bytes_eq name k.now) keys) h f
+pub number_found : (name : List ℕ) (es : List (Bor (List ℕ) × Kind))
+    → unwrap_or (position (λ (k : Bor (List ℕ)). bytes_eq name k.now) (keys_of es)) (length es) ≡ position_or_len (λ (e : List ℕ × Kind). bytes_eq name e.0) (map entry_of es)
+number_found name es =
+    let mapped = prefix_len-map (λ (e : List ℕ × Kind). not (bytes_eq name e.0)) entry_of es in
+    let keys = prefix_len-map (λ (k : Bor (List ℕ)). not (bytes_eq name k.now)) (λ (e : Bor (List ℕ) × Kind). e.0) es in
+    or_length (λ (k : Bor (List ℕ)). bytes_eq name k.now) (keys_of es) (length es) (length-map es (λ (e : Bor (List ℕ) × Kind). e.0)) ∙ keys ∙ sym mapped
+  where
+    or_length : {X : Type 0} (p : X → Bool) (xs : List X) (n : ℕ) → length xs ≡ n → unwrap_or (position p xs) n ≡ position_or_len p xs
+    or_length p xs n e = let within = prefix_len-le-length (λ x. not (p x)) xs in by_test (position_or_len p xs) (length xs) n e within
+      where
+        by_test : (i l n : ℕ) → l ≡ n → i ≤ l → unwrap_or (cond (nat_lt i l) (Some i) None) n ≡ i
+        by_test i l n e w = by (nat_lt i l) refl
+          where
+            by : (b : Bool) → nat_lt i l ≡ b → unwrap_or (cond b (Some i) None) n ≡ i
+            by true t = refl
+            by false t = let ge : l ≤ i = grind (arith, nat_tests) in omega arith
 
-pub lacked_it : (name : List ℕ) (keys : List (Bor (List ℕ))) (held : List (List ℕ)) (added : Bool) → map (λ (k : Bor (List ℕ)). k.now) keys ≡ held
-    → added ≡ not (list_any (λ (k : Bor (List ℕ)). bytes_eq name k.now) keys) → added ≡ true → names held name ≡ false
-lacked_it name keys held added e h t = ap (λ (ns : List (List ℕ)). names ns name) (sym e) ∙ sym (key_named name keys) ∙ not_true added (list_any (λ (k : Bor (List ℕ)). bytes_eq name k.now) keys) h t
+-- a signal more, where its text is new
+pub absent_added : (name : Bor (List ℕ)) (kind : Kind) (es : List (Bor (List ℕ) × Kind)) → is_some (lookup (λ (k : Bor (List ℕ)). bytes_eq name.now k.now) es) ≡ false
+    → map entry_of (insert_entry (λ (j k : Bor (List ℕ)). bytes_eq j.now k.now) es name kind) ≡ with_entry (map entry_of es) name.now kind
+absent_added name kind es e =
+    let none : is_some (found (map entry_of es) name.now) ≡ false = ap is_some (sym (kind_found name.now es)) ∙ e in
+    appended es e ∙ sym (ap (λ b. cond b (map entry_of es) (map entry_of es ++ (name.now, kind) ∷ [])) none)
+  where
+    appended : (es : List (Bor (List ℕ) × Kind)) → is_some (lookup (λ (k : Bor (List ℕ)). bytes_eq name.now k.now) es) ≡ false
+        → map entry_of (insert_entry (λ (j k : Bor (List ℕ)). bytes_eq j.now k.now) es name kind) ≡ map entry_of es ++ (name.now, kind) ∷ []
+    appended [] e = refl
+    appended (f ∷ es) e = by (bytes_eq name.now f.0.now) e (appended es)
+      where
+        by : (b : Bool) → is_some (cond b (Some f.1) (lookup (λ (k : Bor (List ℕ)). bytes_eq name.now k.now) es)) ≡ false
+            → (is_some (lookup (λ (k : Bor (List ℕ)). bytes_eq name.now k.now) es) ≡ false → map entry_of (insert_entry (λ (j k : Bor (List ℕ)). bytes_eq j.now k.now) es name kind) ≡ map entry_of es ++ (name.now, kind) ∷ [])
+            → map entry_of (cond b ((f.0, kind) ∷ es) (f ∷ insert_entry (λ (j k : Bor (List ℕ)). bytes_eq j.now k.now) es name kind)) ≡ entry_of f ∷ (map entry_of es ++ (name.now, kind) ∷ [])
+        by true h tail = cc
+        by false h tail = ap (λ l. entry_of f ∷ l) (tail h)
 
--- the names of some things, which differ
-pub record HaveNames (texts : List (List ℕ)) (held : List (List ℕ)) : Type 0 where
-  pub held_are : held ≡ texts
-  pub differ : AllPairs (λ a b. a ≢ b) held
-
-other : (held : List (List ℕ)) (name : List ℕ) (k : ℕ) (d : List ℕ) → k < length held → names held name ≡ false → get_or held k d ≢ name
-other held name k d lt lacks e =
-    let there : names held name ≡ true = list_any_at (λ (n : List ℕ). bytes_eq name n) held k d lt ((bytes_eq-Decides name (get_or held k d)).1 (sym e)) in cc
-
--- one name more, which differs from those before it
-pub names_more : {X Y : Type 0} (f : X → Y) (g : Y → List ℕ) (xs : List X) (i : ℕ) (d : X) (held held' : List (List ℕ)) → i < length xs
-    → HaveNames (map g (map f (take i xs))) held → names held (g (f (get_or xs i d))) ≡ false → held' ≡ held ++ g (f (get_or xs i d)) ∷ [] → HaveNames (map g (map f (take (i + 1) xs))) held'
-names_more {X} f g xs i d held held' lt have lacks more = let name : List ℕ = g (f (get_or xs i d)) in record {
-  held_are =
-      let taken : take (i + 1) xs ≡ take i xs ++ get_or xs i d ∷ [] = take_more xs i d lt in
-      let mapped : map f (take (i + 1) xs) ≡ map f (take i xs) ++ f (get_or xs i d) ∷ [] = ap (map f) taken ∙ map_push f (take i xs) (get_or xs i d) in
-      let named : map g (map f (take (i + 1) xs)) ≡ map g (map f (take i xs)) ++ name ∷ [] = ap (map g) mapped ∙ map_push g (map f (take i xs)) (f (get_or xs i d)) in
-      more ∙ ap (λ h. h ++ name ∷ []) have.held_are ∙ sym named;
-  differ = subst (AllPairs (λ a b. a ≢ b)) (sym more) (all_pairs_push (λ a b. a ≢ b) held name have.differ (λ k e l. other held name k e l lacks));
-}
-
--- a name that was there before is there twice
-pub named_twice : {X Y : Type 0} (f : X → Y) (g : Y → List ℕ) (xs : List X) (i : ℕ) (d : X) (held : List (List ℕ)) → i < length xs
-    → HaveNames (map g (map f (take i xs))) held → names held (g (f (get_or xs i d))) ≡ true → AllPairs (λ a b. a ≢ b) (map g (map f xs)) → ⊥
-named_twice {X} {Y} f g xs i d held lt have there differ =
-    let all : List (List ℕ) = map g (map f xs) in
-    let size : length all ≡ length xs = length-map (map f xs) g ∙ length-map xs f in
-    let front : held ≡ take i all = have.held_are ∙ sym (take-map g i (map f xs) ∙ ap (map g) (take-map f i xs)) in
-    let (k, x, in_held, reads, same) = Any-from_list_any (λ (n : List ℕ). bytes_eq (g (f (get_or xs i d))) n) held there in
-    let few = ap length front ∙ length-take i all in
-    let below : k < i = omega arith in
-    let first : get_or all k x ≡ x = sym (get_or-take i all k x below) ∙ ap (λ (h : List (List ℕ)). get_or h k x) (sym front) ∙ reads in
-    let last : get_or all i x ≡ g (f (get_or xs i d)) =
-    get_or-map g (map f xs) i (f (get_or xs i d)) x (let mapped = length-map xs f in omega arith)
-    ∙ ap g (get_or-map f xs i d (f (get_or xs i d)) lt) in
-    let name : g (f (get_or xs i d)) ≡ x = (bytes_eq-Decides (g (f (get_or xs i d))) x).0 same in
-    differ k i x below (omega arith) (first ∙ sym (last ∙ name))
+pub present_kept : (name : Bor (List ℕ)) (kind : Kind) (es : List (Bor (List ℕ) × Kind)) → is_some (lookup (λ (k : Bor (List ℕ)). bytes_eq name.now k.now) es) ≡ true
+    → map entry_of es ≡ with_entry (map entry_of es) name.now kind
+present_kept name kind es e =
+    let some : is_some (found (map entry_of es) name.now) ≡ true = ap is_some (sym (kind_found name.now es)) ∙ e in
+    sym (ap (λ b. cond b (map entry_of es) (map entry_of es ++ (name.now, kind) ∷ [])) some)

@@ -1,8 +1,9 @@
-pub mod Words
-pub mod Lexemes
-pub mod Syntax
+pub mod Signals
+pub mod Rules
+pub mod Netlists
+pub mod Machine
 pub mod Thin
-pub mod Front
-pub mod Reader
 pub mod View
-pub mod Resolve
+pub mod Faults
+pub mod MachineView
+pub mod Tables

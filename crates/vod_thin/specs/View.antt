@@ -1,49 +1,47 @@
--- The trees of the code, without where they lie in memory.
-use Rattle.std.specs.Prelude.{◌≡◌, map, Option, None, Some, Result, Ok, Err}
-use Rattle.vod_thin.specs.declared.fault.ThinFault.{ThinFault}
-use Rattle.vod_thin.specs.declared.fault.ThinFault.TheVariants.{Refused, Memory}
-use Rattle.vod_thin.specs.declared.syntax.Term as code_term
-use Rattle.vod_thin.specs.declared.syntax.Value as code_value
-use Rattle.vod_thin.specs.declared.syntax.Value.TheVariants as value
-use Rattle.vod_thin.specs.declared.syntax.Assign as code_assign
-use Rattle.vod_thin.specs.declared.syntax.Port as code_port
-use Rattle.vod_thin.specs.declared.syntax.Module as code_module
-use Rattle.vod_thin.specs.declared.syntax.Reader as code_reader
-use Rattle.vod_thin.specs.Syntax.{Term, Value, One, Two, Assign, Port, Module}
-use Rattle.vod_thin.specs.Reader.{Draft}
+-- What the tables of the code hold.
+use Rattle.std.specs.Prelude.{◌≡◌, ℕ, Bool, List, [], ◌∷◌, ◌++◌, slice_get, Option, None, Some, if◌then◌else◌}
+use Rattle.std.specs.Option.{is_some}
+use Rattle.std.specs.Str.{bytes_eq}
+use Rattle.vod_design.specs.declared.thin.Input.{Input}
+use Rattle.vod_design.specs.declared.thin.Initial.{Initial}
+use Rattle.vod_thin.specs.declared.names.Kind.{Kind}
+use Rattle.vod_thin.specs.Netlists.{input_of, initial_of}
+use Rattle.vod_thin.specs.Signals.{Declared, has_text}
 
-abbrev pub term_of : code_term.Term → Term
-term_of term = record { name = term.name.now; inverted = term.inverted }
+-- a text more, where it is new
+abbrev pub with_text : List (List ℕ) → List ℕ → List (List ℕ)
+with_text held text = if has_text held text then held else held ++ text ∷ []
 
-abbrev pub value_of : code_value.Value → Value
-value_of (value.One term) = One (term_of term)
-value_of (value.Two left op right) = Two (term_of left) op (term_of right)
+-- texts without those that came before
+abbrev pub distinct : List (List ℕ) → List (List ℕ) → List (List ℕ)
+distinct held [] = held
+distinct held (text ∷ texts) = distinct (with_text held text) texts
 
-abbrev pub assign_of : code_assign.Assign → Assign
-assign_of assign = record { target = assign.target.now; value = value_of assign.value }
+-- the kind of the first signal with this text
+abbrev pub found : List (List ℕ × Kind) → List ℕ → Option Kind
+found [] text = None
+found (e ∷ es) text = if bytes_eq text e.0 then Some e.1 else found es text
 
-abbrev pub port_of : code_port.Port → Port
-port_of port = record { direction = port.direction; name = port.name.now }
+-- a signal more, where its text is new
+abbrev pub with_entry : List (List ℕ × Kind) → List ℕ → Kind → List (List ℕ × Kind)
+with_entry es text kind = if is_some (found es text) then es else es ++ (text, kind) ∷ []
 
-abbrev pub module_of : code_module.Module → Module
-module_of m = record { name = m.name.now; first = port_of m.first; more = map port_of m.more.items; assigns = map assign_of m.assigns.items }
+-- signals without those whose text came before
+abbrev pub first_entries : List (List ℕ × Kind) → List Declared → List (List ℕ × Kind)
+first_entries es [] = es
+first_entries es (signal ∷ signals) = first_entries (with_entry es signal.name.bytes signal.kind) signals
 
-abbrev pub draft_of : code_reader.Reader → Draft
-draft_of r = record {
-  at = r.place;
-  name = r.name.now;
-  first = port_of r.first;
-  more = map port_of r.more.items;
-  assigns = map assign_of r.assigns.items;
-  direction = r.direction;
-  target = r.target.now;
-  left = term_of r.left;
-  operator = r.operator;
-  right = term_of r.right;
-}
+-- what the signal with a number brings
+abbrev pub input_by : List (List ℕ) → ℕ → Option (List ℕ × Kind) → List Input
+input_by waited number None = []
+input_by waited number (Some e) = input_of waited number e.0 e.1
 
--- a step gave what was to come next, or was refused where nothing may
-abbrev pub Gives : Result (Unit {0}) ThinFault → Option Draft → Draft → Type 0
-Gives (Ok done) expected new = expected ≡ Some new
-Gives (Err Refused) expected new = expected ≡ None
-Gives (Err Memory) expected new = Unit {0}
+abbrev pub input_at : List (List ℕ) → List (List ℕ × Kind) → ℕ → List Input
+input_at waited signals number = input_by waited number (slice_get signals number)
+
+abbrev pub initial_by : ℕ → Option (List ℕ × Kind) → List Initial
+initial_by number None = []
+initial_by number (Some e) = initial_of number e.1
+
+abbrev pub initial_at : List (List ℕ × Kind) → ℕ → List Initial
+initial_at signals number = initial_by number (slice_get signals number)

@@ -1,13 +1,28 @@
-//! Why a source isn't read.
+//! Why a source has no design.
 use std::alloc::{AllocError, AllocFailed};
+use vod_thin_syntax::SyntaxFault;
 
-/// Why a source isn't read.
+/// Why a source has no design.
 #[derive(Clone, Copy, Debug, PartialEq, Eq)]
 pub enum ThinFault {
-    /// It isn't of the thin form.
-    Refused,
-    /// There was no memory.
+    /// It isn't of the thin form: the least of the places that make it so, in bytes.
+    At(u32),
+    /// Memory ran out.
     Memory,
+}
+
+impl From<SyntaxFault> for ThinFault {
+    ghost use Rattle.std.specs.Prelude.{◌≡◌};
+    ghost use Rattle.vod_thin.specs.Faults.{fault_of};
+
+    ghost from_gives = { λ fault made. made ≡ fault_of fault };
+
+    fn from(fault: SyntaxFault) -> ThinFault {
+        match fault {
+            SyntaxFault::At(place) => ThinFault::At(place),
+            SyntaxFault::Memory => ThinFault::Memory,
+        }
+    }
 }
 
 impl From<AllocError> for ThinFault {

@@ -1,17 +1,13 @@
-//! The thin form of a design, as bytes.
+//! The thin form of a design: which sources are of it, the design of each, and where others are refused.
 #![tactic(auto)]
 
 mod fault;
+mod judge;
+mod machine;
 mod names;
-mod ports;
+mod netlist;
 mod read;
-mod resolve;
-mod syntax;
-#[cfg(test)]
-mod tests;
-mod token;
+mod text;
 
 pub use fault::ThinFault;
-pub use read::{one_design, read_thin};
-pub use syntax::{Direction, Operator};
-pub use token::{RESERVED, Word};
+pub use read::{one_design, one_place, read_thin};

@@ -1,36 +1,85 @@
 //! A source of the thin form, as its design.
-ghost use Rattle.std.specs.Prelude.{◌≡◌, ℕ, List, Err, IfOk};
-ghost use Rattle.vod_design.specs.Netlist.{Netlist};
+ghost use Rattle.std.specs.Prelude.{◌≡◌, ◌≢◌, ◌≤◌, ◌^◌, ℕ, List, Bool, false, length, IsTrue, IfOk, IfErr, MatchResult};
 ghost use Rattle.vod_design.specs.Names.{HasPlainNames};
-ghost use Rattle.vod_thin.specs.Thin.{IsThin};
+ghost use Rattle.vod_design.specs.Netlist.{Netlist};
+ghost use Rattle.vod_thin.specs.Faults.{IsFault};
+ghost use Rattle.vod_thin.specs.Thin.{IsThin, IsRefused};
 
 use crate::ThinFault;
-use crate::resolve::resolve;
-use crate::syntax::sentence_module;
-use crate::token::tokens;
+use crate::judge::{judge_names, sooner};
+use crate::netlist::Builder;
+use crate::text::Text;
 use std::alloc::Global;
-use vod_design::thin::Design;
+use vod_design::thin::{Design, expr_by_operands};
+use vod_thin_syntax::{Sentence, one_sentence, read_sentence};
+use vod_token::one_token;
 
-/// The most bytes of a source.
-const MAX_BYTES: usize = 1_048_576;
-
-/// The design of a source of the thin form: a module of inputs, outputs and continuous assignments of at most
-/// two operands. `Refused` where the source isn't of that form.
-pub fn read_thin(alloc: Global, source: &[u8]) -> Result<Design, ThinFault>
+/// The design of a source of the thin form, or the least place where it isn't of it. The source has at most 1,048,576
+/// bytes; where it is longer, it is handed over up to there and `more` says so.
+///
+/// A name that breaks a rule is refused where it stands: names of signals differ; names are declared before they are
+/// used; each wire and output has one `assign`, which stands before the reads of its target; no clock is read; all
+/// `always` wait for one input; and no register is assigned in two of them.
+pub fn read_thin(alloc: Global, source: &[u8], more: bool) -> Result<Design, ThinFault>
+    requires short { length source.now ≤ 2 ^ 20 }
+    requires cut { IsTrue more → length source.now ≡ 2 ^ 20 }
     ensures thin { IfOk result (λ d. IsThin source.now d) }
     ensures plain { IfOk result (λ d. HasPlainNames d) }
-    ensures refused { result ≡ Err ThinFault.Refused → (d : Netlist) → IsThin source.now d → ⊥ }
+    ensures whole { IfOk result (λ _. more ≡ false) }
+    ensures refused { IfErr result (IsFault source.now more) }
+
+    // A source of the form has its design, unless memory runs out; any other is refused at its least place.
+    ensures accepts { (d : Netlist) → IsThin source.now d → more ≡ false →
+        MatchResult result (λ e. e ≡ d) (λ fault. fault ≡ ThinFault.Memory) }
+    ensures refuses { (place : ℕ) → IsRefused source.now more place →
+        MatchResult result (λ _. ⊥) (λ fault. (fault ≢ ThinFault.Memory) → fault ≡ ThinFault.At place) }
 {
-    if source.len() > MAX_BYTES {
-        return Err(ThinFault::Refused);
-    }
-    let tokens = tokens(alloc, source)?;
-    let parsed = sentence_module(alloc, &tokens)?;
-    let design = resolve(alloc, &parsed)?;
-    Ok(design)
+    one_design();
+    one_place();
+    read(alloc, source, more)
 }
 
 /// A source has one design.
 pub fn one_design()
     ensures { (source : List ℕ) (d e : Netlist) → IsThin source d → IsThin source e → d ≡ e }
-{}
+{
+    one_sentence();
+}
+
+/// A source of the form isn't refused, and a source is refused at one place.
+pub fn one_place()
+    ensures thin { (source : List ℕ) (d : Netlist) (place : ℕ) → IsThin source d → IsRefused source false place → ⊥ }
+    ensures refused { (source : List ℕ) (more : Bool) (place other : ℕ) →
+        IsRefused source more place → IsRefused source more other → place ≡ other }
+{
+    one_sentence();
+}
+
+fn read(alloc: Global, source: &[u8], more: bool) -> Result<Design, ThinFault>
+    requires short { length source.now ≤ 2 ^ 20 }
+    requires cut { IsTrue more → length source.now ≡ 2 ^ 20 }
+    ensures thin { IfOk result (λ d. IsThin source.now d) }
+    ensures plain { IfOk result (λ d. HasPlainNames d) }
+    ensures whole { IfOk result (λ _. more ≡ false) }
+    ensures refused { IfErr result (IsFault source.now more) }
+{
+    expr_by_operands();
+    one_token();
+    let sentence = read_sentence(alloc, source, more)?;
+    let text = Text {
+        source,
+        tokens: &sentence.tokens,
+    };
+    let judged = judge_names(alloc, &text, &sentence.module)?;
+    if let Some(place) = sooner(sentence.limit, judged.fault) {
+        return Err(ThinFault::At(place));
+    }
+    let builder = Builder {
+        alloc,
+        text,
+        signals: &judged.names.signals,
+        clocks: &judged.names.clocks,
+    };
+    let parts = builder.parts(&sentence.module)?;
+    Ok(Design::of(parts))
+}
