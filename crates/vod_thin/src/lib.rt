@@ -7,7 +7,9 @@ mod machine;
 mod names;
 mod netlist;
 mod read;
+#[cfg(test)]
+mod tests;
 mod text;
 
 pub use fault::ThinFault;
-pub use read::{one_design, one_place, read_thin};
+pub use read::{one_design, one_place, plain_names, read_thin};

@@ -55,6 +55,14 @@ pub fn one_place()
     one_sentence();
 }
 
+/// The inputs of a design that was read have plain names, which differ.
+pub fn plain_names()
+    ensures { (source : List ℕ) (d : Netlist) → length source ≤ 2 ^ 20 → IsThin source d → HasPlainNames d }
+{
+    expr_by_operands();
+    one_token();
+}
+
 fn read(alloc: Global, source: &[u8], more: bool) -> Result<Design, ThinFault>
     requires short { length source.now ≤ 2 ^ 20 }
     requires cut { IsTrue more → length source.now ≡ 2 ^ 20 }

@@ -1,0 +1,31 @@
+-- The design of a module without a fault is the one that is made of it.
+use Rattle.std.proofs.Common.{◌≡◌, ℕ, List, [], ◌∷◌, Option, None, Some, sym, ◌∙◌, subst}
+use Rattle.vod_design.specs.declared.thin.Bit.TheVariants as bit
+use Rattle.vod_design.specs.Names.{HasPlainNames}
+use Rattle.vod_thin_syntax.specs.Limit.{sooner, limit_of}
+use Rattle.vod_thin_syntax.specs.Syntax.{printed}
+use Rattle.vod_thin_syntax.specs.Syntax as tree
+use Rattle.vod_thin.specs.Rules.{least, faults}
+use Rattle.vod_thin.specs.Signals.{signals_of, texts, clocks}
+use Rattle.vod_thin.proofs.Made.{ReadsBy, made}
+use Rattle.vod_thin.proofs.read.plain_names.Goals as goal
+
+none_later : (a b : Option ℕ) → sooner a b ≡ None → b ≡ None
+none_later None b e = e
+none_later (Some p) None e = cc
+none_later (Some p) (Some q) e = cc
+
+no_places : (ps : List ℕ) → least ps ≡ None → ps ≡ []
+no_places [] e = refl
+no_places (p ∷ ps) e = some p (least ps) e
+  where
+    some : {A : Type 0} (p : ℕ) (b : Option ℕ) → sooner (Some p) b ≡ None → A
+    some p None e = cc
+    some p (Some q) e = cc
+
+pub returns : goal.returns
+returns c = λ source d short thin.
+    let reads_by : ReadsBy = ? in
+    let none : faults (printed thin.tree) ≡ [] = no_places (faults (printed thin.tree)) (none_later (limit_of source thin.tokens) (least (faults (printed thin.tree))) thin.faultless) in
+    let it = made reads_by c.one_token.ensures.some source thin.tokens thin.tree _ _ short thin.reads none refl refl in
+    subst HasPlainNames (it.is ∙ sym thin.design) it.plain
