@@ -7,6 +7,8 @@ mod machine;
 mod names;
 mod netlist;
 mod read;
+#[cfg(test)]
+mod tests;
 mod text;
 
 pub use fault::ThinFault;
