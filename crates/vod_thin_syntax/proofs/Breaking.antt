@@ -1,5 +1,5 @@
 -- Where tokens are no sentence, and where a source breaks off.
-use Rattle.std.proofs.Common.{◌≡◌, ℕ, zero, suc, ◌+◌, ◌^◌, ◌<◌, ◌≤◌, ◌⊎◌, inl, inr, List, [], ◌∷◌, ◌++◌, map, drop, take, length, length-append, refl, sym, ◌∙◌, ap, subst, append_assoc, append-nil, arith, Bool, true, false, Option, None, Some, min, ◌||◌, nat_le}
+use Rattle.std.proofs.Common.{◌≡◌, ℕ, zero, suc, ◌^◌, ◌<◌, ◌≤◌, ◌⊎◌, inl, inr, List, [], ◌∷◌, ◌++◌, drop, take, length, length-append, refl, sym, ◌∙◌, ap, subst, append_assoc, append-nil, arith, Bool, true, false, Option, None, Some, min, ◌||◌, nat_le}
 use Rattle.std.proofs.lemmas.List.{take-append-drop}
 use Rattle.std.proofs.lemmas.Bool.Decides.{nat_tests}
 use Rattle.std.proofs.Math.Nat.{min-eq_left, min_comm}
@@ -9,8 +9,8 @@ use Rattle.vod_thin_syntax.specs.declared.fault.SyntaxFault.TheVariants as fault
 use Rattle.std.specs.Option.{is_some, unwrap_or}
 use Rattle.std.proofs.Math.Seq.{take-append_seam}
 use Rattle.vod_token.specs.declared.Token.{Token}
-use Rattle.vod_thin_syntax.proofs.Sentences.{ModuleRead, module_sound, module_full, printed_injective}
-use Rattle.vod_thin_syntax.proofs.Steady.{Stuck, got_value, got_rest, refused_rest}
+use Rattle.vod_thin_syntax.proofs.Sentences.{module_sound, module_full, printed_injective}
+use Rattle.vod_thin_syntax.proofs.Steady.{got_value, got_rest}
 use Rattle.vod_thin_syntax.proofs.SteadyParts.{module_steady}
 use Rattle.vod_thin_syntax.proofs.TokenLaws.{falls_before}
 use Rattle.vod_thin_syntax.specs.Limit.{limit_of}
@@ -18,10 +18,10 @@ use Rattle.vod_thin_syntax.specs.Outcome.{Broken, IsBreak, IsRead, IsFault, plac
 use Rattle.vod_thin_syntax.specs.declared.read.Break.{Break}
 use Rattle.vod_thin_syntax.specs.declared.read.Break.TheVariants as breaks
 use Rattle.vod_thin_syntax.specs.declared.syntax.Sentence.{Sentence}
-use Rattle.vod_thin_syntax.specs.Reader.{Read, Got, Refused, module_read}
+use Rattle.vod_thin_syntax.specs.Reader.{Got, Refused, module_read}
 use Rattle.vod_thin_syntax.specs.Refusal.{Reads, Breaks, Passes, IsRefusedAt}
 use Rattle.vod_thin_syntax.specs.Refusal.Breaks.{no_token, no_sentence, too_short, too_long}
-use Rattle.vod_thin_syntax.specs.Syntax.{Mark, Value, Module, value_marks, sentence, IsModule, IsSentence, Begins, printed}
+use Rattle.vod_thin_syntax.specs.Syntax.{Mark, Value, Module, value_marks, sentence, IsSentence, Begins, printed}
 use Rattle.vod_thin_syntax.specs.Tokens.{Falls}
 use Rattle.vod_thin_syntax.specs.View.{mark_of, marks_of, module_of}
 

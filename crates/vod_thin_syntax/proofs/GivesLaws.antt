@@ -1,6 +1,6 @@
 -- A call that ends with the refusal of another one.
-use Rattle.std.proofs.Common.{◌≡◌, List, Result, Ok, Err, subst}
-use Rattle.vod_thin_syntax.specs.Reader.{Read, Got, Refused}
+use Rattle.std.proofs.Common.{◌≡◌, List, Result, Err, subst}
+use Rattle.vod_thin_syntax.specs.Reader.{Read, Refused}
 use Rattle.vod_thin_syntax.specs.State.{Gives}
 use Rattle.vod_thin_syntax.specs.Syntax.{Mark}
 use Rattle.vod_thin_syntax.specs.declared.reader.Stop.{Stop}

@@ -1,5 +1,6 @@
 mod Breaking
 mod GivesLaws
+mod NameLaws
 mod SteadyParts
 mod Rounds
 mod SameWords

@@ -1,5 +1,5 @@
 -- Parts in turn, up to a word.
-use Rattle.std.proofs.Common.{◌≡◌, ℕ, zero, suc, ◌+◌, ◌<◌, ◌≤◌, List, [], ◌∷◌, ◌++◌, length, refl, sym, ◌∙◌, ap, subst, append_assoc, length-append, arith, ◌-◌, Bool, true, false, cond, eq-eqb}
+use Rattle.std.proofs.Common.{◌≡◌, ℕ, zero, suc, ◌+◌, ◌<◌, ◌≤◌, List, [], ◌∷◌, ◌++◌, length, refl, sym, ◌∙◌, ap, append_assoc, arith, ◌-◌, Bool, true, false, cond, eq-eqb}
 use Rattle.std.specs.List.{flat_map}
 use Rattle.vod_thin_syntax.proofs.Steady.{Takes, Stuck, Steady, Shrinks, got_value, got_rest, refused_rest}
 use Rattle.vod_thin_syntax.specs.Reader.{Read, Got, Refused, Reader, followed, number_of, same_word, is_next, rest_of, many_within, many}

@@ -1,5 +1,5 @@
 -- Words with one number are one.
-use Rattle.std.proofs.Common.{◌≡◌, ℕ, Bool, true, false, cond, List, [], ◌∷◌, refl, sym, ◌∙◌, ap, nat_eq}
+use Rattle.std.proofs.Common.{◌≡◌, ℕ, true, cond, List, [], ◌∷◌, refl, sym, ◌∙◌, ap, nat_eq}
 use Rattle.std.proofs.lemmas.Bool.{eqb-true}
 use Rattle.vod_thin_syntax.specs.Reader.{number_of, same_word, is_next}
 use Rattle.vod_thin_syntax.specs.Syntax.{Mark, Named, Fixed}

@@ -1,8 +1,8 @@
 -- The tokens of a right side, up to its `;`.
-use Rattle.std.proofs.Common.{◌≡◌, ℕ, zero, suc, ◌+◌, ◌<◌, ◌≤◌, List, [], ◌∷◌, ◌++◌, length, refl, sym, ◌∙◌, ap, subst, append_assoc, append-nil, arith, Bool, true, false, ◌&&◌, cond, Option, None, Some}
+use Rattle.std.proofs.Common.{◌≡◌, ℕ, zero, suc, List, [], ◌∷◌, ◌++◌, refl, sym, ◌∙◌, ap, subst, append_assoc, append-nil, Bool, true, false, ◌&&◌, cond, Option, None, Some}
 use Rattle.vod_thin_syntax.proofs.Steady.{Takes, Stuck, Steady, Example, got_value, got_rest, refused_rest}
 use Rattle.vod_thin_syntax.proofs.Rounds.{next_same}
-use Rattle.vod_thin_syntax.specs.Reader.{Read, Got, Refused, Reader, is_next, rest_of, after_mark, after_word, may_end, step_by, step_read, goes_on, scan_read, value_read}
+use Rattle.vod_thin_syntax.specs.Reader.{Got, Refused, is_next, rest_of, after_mark, may_end, step_by, step_read, goes_on, scan_read, value_read}
 use Rattle.vod_thin_syntax.specs.Syntax.{Name, Mark, Named, Fixed}
 use Rattle.vod_thin_syntax.specs.declared.scan.Head.{Head}
 use Rattle.vod_thin_syntax.specs.declared.scan.Head.TheVariants as head

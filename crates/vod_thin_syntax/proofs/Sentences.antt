@@ -1,15 +1,15 @@
 -- A module that is read is a sentence, and each sentence is read.
-use Rattle.std.proofs.Common.{◌≡◌, ℕ, zero, suc, ◌+◌, ◌<◌, ◌≤◌, List, [], ◌∷◌, ◌++◌, map, refl, sym, ◌∙◌, ap, subst, append_assoc, append-nil, arith, Bool, true, false, cond, length, All}
+use Rattle.std.proofs.Common.{◌≡◌, ℕ, zero, suc, ◌<◌, ◌≤◌, List, [], ◌∷◌, ◌++◌, map, refl, sym, ◌∙◌, ap, append_assoc, append-nil, arith, Bool, true, false, cond, length, All}
 use Rattle.std.proofs.lemmas.List.Elements.{All-nil, All-cons, All-tail}
 use Rattle.std.specs.List.{flat_map}
 use Rattle.vod_thin_syntax.proofs.Steady.{Shrinks, got_value, got_rest}
-use Rattle.vod_thin_syntax.proofs.Rounds.{Apart, same_word-refl, next_same, many_stop, many_refused, many_more}
-use Rattle.vod_thin_syntax.proofs.SameWords.{same_word-true, next_is}
+use Rattle.vod_thin_syntax.proofs.Rounds.{Apart, same_word-refl, many_stop, many_refused, many_more}
+use Rattle.vod_thin_syntax.proofs.SameWords.{next_is}
 use Rattle.vod_thin_syntax.proofs.SteadyParts.{next_port_shrinks, next_port_apart, item_shrinks, item_apart}
 use Rattle.vod_thin_syntax.proofs.Trees.{ValueRead, value_sound, value_injective}
 use Rattle.vod_thin_syntax.proofs.Values.{value_full}
-use Rattle.vod_thin_syntax.specs.Reader.{Read, Got, Refused, Reader, followed, bind, give, same_word, is_next, rest_of, choice, word_read, name_read, many, direction_read, port_read, next_port_read, more_ports, ports_read, digit_read, value_read, wire_read, register_read, assign_read, clock_read, always_read, item_read, items_read, module_read}
-use Rattle.vod_thin_syntax.specs.Syntax.{Name, Mark, Named, Fixed, Value, Item, Wire, Register, Assign, Always, Port, Module, value_marks, digit_word, item_marks, direction_word, port_marks, ports_marks, sentence, is_grouped, has_grouped, IsModule, IsSentence, item_printed, printed}
+use Rattle.vod_thin_syntax.specs.Reader.{Read, Got, Refused, Reader, followed, bind, give, is_next, rest_of, choice, word_read, name_read, many, direction_read, port_read, next_port_read, more_ports, ports_read, digit_read, value_read, wire_read, register_read, assign_read, clock_read, always_read, item_read, items_read, module_read}
+use Rattle.vod_thin_syntax.specs.Syntax.{Name, Mark, Named, Fixed, Value, Item, Wire, Register, Assign, Always, Port, Module, value_marks, digit_word, item_marks, direction_word, port_marks, ports_marks, sentence, has_grouped, IsModule, item_printed, printed}
 use Rattle.vod_thin_syntax.specs.declared.words.Word.{Word}
 use Rattle.vod_thin_syntax.specs.declared.words.Word.TheVariants as word
 use Rattle.vod_thin_syntax.specs.declared.syntax.Direction.{Direction}

@@ -1,6 +1,8 @@
 -- The tokens that are left behind the next one.
-use Rattle.std.proofs.Common.{◌≡◌, ℕ, zero, suc, ◌+◌, ◌-◌, ◌<◌, ◌≤◌, List, [], ◌∷◌, ◌++◌, map, take, drop, length, refl, ap, sym, ◌∙◌, add-one, arith}
+use Rattle.std.proofs.Common.{◌≡◌, ℕ, zero, suc, ◌+◌, ◌-◌, ◌<◌, ◌≤◌, List, [], ◌∷◌, ◌++◌, take, drop, length, refl, ap, sym, ◌∙◌, add-one, arith}
 use Rattle.std.proofs.lemmas.List.{drop-drop}
+use Rattle.std.proofs.lemmas.List.Elements.{All-nil, All-cons, All-tail}
+use Rattle.std.specs.Prelude.{All}
 use Rattle.std.specs.Prelude.{slice_range}
 use Rattle.vod_token.specs.declared.Token.{Token}
 use Rattle.vod_thin_syntax.specs.Reader.{rest_of}
@@ -39,3 +41,8 @@ some_left source [] zero t rest h = cc
 some_left source [] (suc at) t rest h = cc
 some_left source (u ∷ ts) zero t rest h = omega arith
 some_left source (u ∷ ts) (suc at) t rest h = let less = some_left source ts at t rest h in omega arith
+
+-- one more that passes
+pub all_push : {X : Type 0} (P : X → Type 0) (xs : List X) (x : X) → All P xs → P x → All P (xs ++ x ∷ [])
+all_push P [] x h p = All-cons P x [] p (All-nil P)
+all_push P (y ∷ ys) x h p = All-cons P y (ys ++ x ∷ []) (h 0 y (omega arith)) (all_push P ys x (All-tail P y ys h) p)

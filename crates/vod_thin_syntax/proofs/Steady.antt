@@ -1,6 +1,6 @@
 -- Readers that look no further than the token at which they stop, and stop only where they could have gone on otherwise.
-use Rattle.std.proofs.Common.{◌≡◌, ℕ, zero, suc, ◌+◌, ◌<◌, ◌≤◌, List, [], ◌∷◌, ◌++◌, length, refl, sym, ◌∙◌, ap, subst, append_assoc, length-append, arith, Bool, true, false, cond, Option, None, Some, eq-eqb}
-use Rattle.vod_thin_syntax.specs.Reader.{Read, Got, Refused, Reader, followed, bind, give, number_of, same_word, first_word, is_word, is_next, rest_of, choice, name_read, many_within, many}
+use Rattle.std.proofs.Common.{◌≡◌, suc, ◌+◌, ◌<◌, List, [], ◌∷◌, ◌++◌, length, refl, sym, ◌∙◌, ap, subst, append_assoc, length-append, arith, Bool, true, false, cond, Option, None, Some}
+use Rattle.vod_thin_syntax.specs.Reader.{Read, Got, Refused, Reader, followed, bind, give, same_word, choice, name_read}
 use Rattle.vod_thin_syntax.specs.Syntax.{Name, Mark, Named, Fixed}
 use Rattle.vod_thin_syntax.specs.declared.words.Word.{Word}
 

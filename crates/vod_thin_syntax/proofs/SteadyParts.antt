@@ -1,11 +1,11 @@
 -- The readers of the parts of a module look no further than the token at which they stop.
-use Rattle.std.proofs.Common.{◌≡◌, List, [], ◌∷◌, ◌++◌, refl, ◌∙◌, ap, Bool, true, false, cond}
+use Rattle.std.proofs.Common.{◌≡◌, List, [], ◌∷◌, refl, ap, Bool, true, false, cond}
 use Rattle.vod_thin_syntax.proofs.Steady.{Steady, Example, Shrinks, AllSteady, give_steady, bind_steady, name_steady, choice_steady, choice_shrinks, bind_shrinks}
 use Rattle.vod_thin_syntax.proofs.Rounds.{Apart, same_word-refl, many_steady}
 use Rattle.vod_thin_syntax.proofs.SameWords.{next_is}
 use Rattle.vod_thin_syntax.proofs.Scans.{value_steady}
-use Rattle.vod_thin_syntax.specs.Reader.{Read, Got, Refused, Reader, give, rest_of, choice, same_word, word_read, name_read, direction_read, port_read, next_port_read, more_ports, ports_read, digit_read, value_read, wire_read, register_read, assign_read, clock_read, always_read, item_read, items_read, module_read}
-use Rattle.vod_thin_syntax.specs.Syntax.{Name, Mark, Named, Fixed, Item, Port, Module}
+use Rattle.vod_thin_syntax.specs.Reader.{Got, Refused, Reader, give, choice, word_read, name_read, direction_read, port_read, next_port_read, more_ports, ports_read, digit_read, value_read, wire_read, register_read, assign_read, clock_read, always_read, item_read, items_read, module_read}
+use Rattle.vod_thin_syntax.specs.Syntax.{Mark, Fixed, Item, Port}
 use Rattle.vod_thin_syntax.specs.declared.words.Word.{Word}
 use Rattle.vod_thin_syntax.specs.declared.words.Word.TheVariants as word
 use Rattle.vod_thin_syntax.specs.declared.syntax.Direction.TheVariants as direction

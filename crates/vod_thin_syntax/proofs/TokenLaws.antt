@@ -1,5 +1,5 @@
 -- The bytes of a source fall into tokens of the thin form in one way.
-use Rattle.std.proofs.Common.{◌≡◌, get_or, drop-cons, add-one, ℕ, ◌+◌, ◌-◌, ◌<◌, ◌≤◌, ◌⊎◌, inl, inr, List, [], ◌∷◌, ◌++◌, arith, length, take, drop, refl, sym, ◌∙◌, ap, true, false, Bool, Option, Some, None, subst, append-nil, length-append}
+use Rattle.std.proofs.Common.{◌≡◌, get_or, drop-cons, add-one, ℕ, ◌+◌, ◌-◌, ◌<◌, ◌≤◌, inl, inr, List, [], ◌∷◌, ◌++◌, arith, length, take, drop, refl, sym, ◌∙◌, ap, true, false, Option, Some, None, subst, append-nil, length-append}
 use Rattle.std.proofs.lemmas.Grind.{common_steps}
 use Rattle.std.proofs.lemmas.List.{take-append-drop, drop-drop}
 use Rattle.std.proofs.lemmas.List.Elements.{All-nil, All-cons}
@@ -11,7 +11,6 @@ use Rattle.vod_token.specs.Cut.{Holds, wrong_with, token}
 use Rattle.vod_token.specs.Form.{is_white, Form, IsSpelled, kind_of}
 use Rattle.vod_token.specs.Form.Form.{Word, Plain, Based, Directive, Symbol}
 use Rattle.vod_token.specs.Front.{IsFront}
-use Rattle.vod_token.specs.Word.{is_reserved}
 use Rattle.vod_token.specs.declared.Token.{Token}
 use Rattle.vod_token.specs.declared.TokenKind.{TokenKind}
 use Rattle.vod_token.specs.declared.TokenKind.TheVariants as kinds

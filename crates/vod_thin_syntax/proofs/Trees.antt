@@ -1,13 +1,12 @@
 -- The tokens of a right side are read into a tree, in one way.
-use Rattle.std.proofs.Common.{◌≡◌, ℕ, zero, suc, ◌+◌, ◌<◌, ◌≤◌, List, [], ◌∷◌, ◌++◌, refl, sym, ◌∙◌, ap, subst, append_assoc, append-nil, arith, Bool, true, false, ◌&&◌, cond, Option, None, Some, option_and_then, length, add-one, nat_le, nat_lt, nat_eq}
+use Rattle.std.proofs.Common.{◌≡◌, ℕ, suc, ◌<◌, ◌≤◌, List, [], ◌∷◌, ◌++◌, refl, sym, ◌∙◌, ap, subst, append_assoc, append-nil, arith, Bool, true, false, ◌&&◌, cond, Option, None, Some, option_and_then, length, add-one, nat_le, nat_eq}
 use Rattle.std.proofs.lemmas.Bool.Decides.{nat_tests}
 use Rattle.vod_thin_syntax.proofs.Steady.{got_value, got_rest}
 use Rattle.vod_thin_syntax.proofs.SameWords.{next_is}
 use Rattle.vod_thin_syntax.proofs.Scans.{ends, scan_ends, scan_goes}
-use Rattle.vod_thin_syntax.proofs.Values.{scan_at, attach, attach_marks, Grouped, grouped_parts, attached, operator_low}
-use Rattle.vod_thin_syntax.specs.Reader.{Read, Got, Refused, is_next, after_mark, after_word, may_end, goes_on, scan_read, value_read}
+use Rattle.vod_thin_syntax.proofs.Values.{scan_at, attach, attach_marks, grouped_parts, attached, operator_low}
+use Rattle.vod_thin_syntax.specs.Reader.{Got, is_next, after_mark, after_word, may_end, goes_on, scan_read, value_read}
 use Rattle.vod_thin_syntax.specs.Syntax.{Name, Mark, Named, Fixed, Operator, And, Xor, Or, Value, Plain, Group, Joined, operator_word, tilde, value_marks, strength, level, is_grouped}
-use Rattle.vod_thin_syntax.specs.declared.scan.Head.{Head}
 use Rattle.vod_thin_syntax.specs.declared.scan.Head.TheVariants as head
 use Rattle.vod_thin_syntax.specs.declared.scan.Scan.{Scan}
 use Rattle.vod_thin_syntax.specs.declared.words.Word.{Word}

@@ -6,5 +6,7 @@ pub mod Limit
 pub mod Refusal
 pub mod Scan
 pub mod Reader
+pub mod Names
+pub mod Lies
 pub mod Outcome
 pub mod State

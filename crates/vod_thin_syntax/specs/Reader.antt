@@ -1,5 +1,5 @@
 -- A module read from the front of some tokens: what is read, and where the tokens can't go on.
-use Rattle.std.specs.Prelude.{ℕ, zero, suc, ◌+◌, ◌-◌, ◌==◌, Bool, true, false, ◌&&◌, List, [], ◌∷◌, ◌++◌, length, Option, None, Some, if◌then◌else◌}
+use Rattle.std.specs.Prelude.{ℕ, zero, suc, ◌+◌, ◌==◌, Bool, true, false, ◌&&◌, List, [], ◌∷◌, ◌++◌, length, Option, None, Some, if◌then◌else◌}
 use Rattle.vod_thin_syntax.specs.declared.words.Word.{Word}
 use Rattle.vod_thin_syntax.specs.declared.words.Word.TheVariants as word
 use Rattle.vod_thin_syntax.specs.declared.syntax.Direction.{Direction}

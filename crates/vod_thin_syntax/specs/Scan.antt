@@ -1,5 +1,5 @@
 -- The tokens of a source, as the code finds them.
-use Rattle.std.specs.Prelude.{◌≡◌, ℕ, ◌-◌, ◌<◌, ◌≤◌, ◌+◌, Bool, true, List, ◌∷◌, length, drop, Option}
+use Rattle.std.specs.Prelude.{ℕ, ◌-◌, ◌<◌, ◌≤◌, ◌+◌, Bool, true, List, ◌∷◌, length, drop, Option}
 use Rattle.std.specs.Option.{is_some}
 use Rattle.vod_token.specs.declared.Token.{Token}
 use Rattle.vod_token.specs.declared.TokenKind.{TokenKind}

@@ -1,5 +1,7 @@
 //! Ports, items and the whole module, read token by token.
-ghost use Rattle.std.specs.Prelude.{◌≡◌, ◌&&◌, [], map};
+ghost use Rattle.std.specs.Prelude.{◌≡◌, ◌&&◌, [], map, All, IfOk, OnOk};
+ghost use Rattle.vod_token.specs.Span.{LiesIn};
+ghost use Rattle.vod_thin_syntax.specs.Lies.{IsRange, PortLies, ItemLies, ModuleLies};
 ghost use Rattle.vod_thin_syntax.specs.View.{name_of, port_of, item_of, marks_in, module_of};
 ghost use Rattle.vod_thin_syntax.specs.Reader.{direction_read, port_read, next_port_read, more_ports, ports_read, digit_read, scan_read, value_read, wire_read, register_read, assign_read, clock_read, always_read, item_read, items_read, module_read, may_end, is_next};
 ghost use Rattle.vod_thin_syntax.specs.State.{left, Gives};
@@ -15,7 +17,8 @@ use vod_token::Token;
 /// A whole module.
 #[tactic(auto, unfolding(crate::specs::Reader::module_read))]
 pub(crate) fn module(reader: Reader<'_>, at: &mut u32, alloc: Global) -> Result<Module, Stop>
-    ensures { Gives (module_of reader.entry.source.now reader.entry.tokens.now) result (left reader.entry at.new) (module_read (left reader.entry at.old)) }
+    ensures gives { Gives (module_of reader.entry.source.now reader.entry.tokens.now) result (left reader.entry at.new) (module_read (left reader.entry at.old)) }
+    ensures lies { IfOk result (ModuleLies reader.entry.source.now reader.entry.tokens.now) }
 {
     reader.word(at, Word::Module)?;
     let name = reader.name(at)?;
@@ -28,7 +31,8 @@ pub(crate) fn module(reader: Reader<'_>, at: &mut u32, alloc: Global) -> Result<
 
 // Ports, up to their `)`.
 fn ports(reader: Reader<'_>, at: &mut u32, alloc: Global) -> Result<Vec<Port>, Stop>
-    ensures { Gives (λ ports. map (port_of reader.entry.source.now) ports.items) result (left reader.entry at.new) (ports_read (left reader.entry at.old)) }
+    ensures gives { Gives (λ ports. map (port_of reader.entry.source.now) ports.items) result (left reader.entry at.new) (ports_read (left reader.entry at.old)) }
+    ensures lies { IfOk result (λ ports. All (PortLies reader.entry.source.now) ports.items) }
 {
     let mut ports = Vec::new(alloc);
     ports.push(port(reader, at)?)?;
@@ -37,8 +41,10 @@ fn ports(reader: Reader<'_>, at: &mut u32, alloc: Global) -> Result<Vec<Port>, S
 }
 
 fn more_ports(reader: Reader<'_>, at: &mut u32, ports: &mut Vec<Port>) -> Result<(), Stop>
-    ensures { Gives (λ _. map (port_of reader.entry.source.now) ports.new.items) result (left reader.entry at.new)
+    requires { All (PortLies reader.source.now) ports.old.items }
+    ensures gives { Gives (λ _. map (port_of reader.entry.source.now) ports.new.items) result (left reader.entry at.new)
         (more_ports (map (port_of reader.entry.source.now) ports.old.items) (left reader.entry at.old)) }
+    ensures lies { OnOk result (All (PortLies reader.entry.source.now) ports.new.items) }
 {
     while !reader.takes(at, Word::Close) {
         let port = next_port(reader, at)?;
@@ -48,7 +54,8 @@ fn more_ports(reader: Reader<'_>, at: &mut u32, ports: &mut Vec<Port>) -> Result
 }
 
 fn next_port(reader: Reader<'_>, at: &mut u32) -> Result<Port, Stop>
-    ensures { Gives (port_of reader.entry.source.now) result (left reader.entry at.new) (next_port_read (left reader.entry at.old)) }
+    ensures gives { Gives (port_of reader.entry.source.now) result (left reader.entry at.new) (next_port_read (left reader.entry at.old)) }
+    ensures lies { IfOk result (PortLies reader.entry.source.now) }
 {
     reader.word(at, Word::Comma)?;
     let port = port(reader, at)?;
@@ -56,7 +63,8 @@ fn next_port(reader: Reader<'_>, at: &mut u32) -> Result<Port, Stop>
 }
 
 fn port(reader: Reader<'_>, at: &mut u32) -> Result<Port, Stop>
-    ensures { Gives (port_of reader.entry.source.now) result (left reader.entry at.new) (port_read (left reader.entry at.old)) }
+    ensures gives { Gives (port_of reader.entry.source.now) result (left reader.entry at.new) (port_read (left reader.entry at.old)) }
+    ensures lies { IfOk result (PortLies reader.entry.source.now) }
 {
     let direction = direction(reader, at)?;
     let name = reader.name(at)?;
@@ -77,7 +85,8 @@ fn direction(reader: Reader<'_>, at: &mut u32) -> Result<Direction, Stop>
 
 // Items, up to `endmodule`.
 fn items(reader: Reader<'_>, at: &mut u32, alloc: Global) -> Result<Vec<Item>, Stop>
-    ensures { Gives (λ items. map (item_of reader.entry.source.now reader.entry.tokens.now) items.items) result (left reader.entry at.new) (items_read [] (left reader.entry at.old)) }
+    ensures gives { Gives (λ items. map (item_of reader.entry.source.now reader.entry.tokens.now) items.items) result (left reader.entry at.new) (items_read [] (left reader.entry at.old)) }
+    ensures lies { IfOk result (λ items. All (ItemLies reader.entry.source.now reader.entry.tokens.now) items.items) }
 {
     let mut items = Vec::new(alloc);
     while !reader.takes(at, Word::Endmodule) {
@@ -89,7 +98,8 @@ fn items(reader: Reader<'_>, at: &mut u32, alloc: Global) -> Result<Vec<Item>, S
 
 #[tactic(auto, unfolding(crate::specs::Reader::item_read))]
 fn item(reader: Reader<'_>, at: &mut u32) -> Result<Item, Stop>
-    ensures { Gives (item_of reader.entry.source.now reader.entry.tokens.now) result (left reader.entry at.new) (item_read (left reader.entry at.old)) }
+    ensures gives { Gives (item_of reader.entry.source.now reader.entry.tokens.now) result (left reader.entry at.new) (item_read (left reader.entry at.old)) }
+    ensures lies { IfOk result (ItemLies reader.entry.source.now reader.entry.tokens.now) }
 {
     if reader.takes(at, Word::Wire) {
         wire(reader, at)
@@ -105,7 +115,8 @@ fn item(reader: Reader<'_>, at: &mut u32) -> Result<Item, Stop>
 }
 
 fn wire(reader: Reader<'_>, at: &mut u32) -> Result<Item, Stop>
-    ensures { Gives (item_of reader.entry.source.now reader.entry.tokens.now) result (left reader.entry at.new) (wire_read (left reader.entry at.old)) }
+    ensures gives { Gives (item_of reader.entry.source.now reader.entry.tokens.now) result (left reader.entry at.new) (wire_read (left reader.entry at.old)) }
+    ensures lies { IfOk result (ItemLies reader.entry.source.now reader.entry.tokens.now) }
 {
     let name = reader.name(at)?;
     reader.word(at, Word::Semicolon)?;
@@ -113,7 +124,8 @@ fn wire(reader: Reader<'_>, at: &mut u32) -> Result<Item, Stop>
 }
 
 fn register(reader: Reader<'_>, at: &mut u32) -> Result<Item, Stop>
-    ensures { Gives (item_of reader.entry.source.now reader.entry.tokens.now) result (left reader.entry at.new) (register_read (left reader.entry at.old)) }
+    ensures gives { Gives (item_of reader.entry.source.now reader.entry.tokens.now) result (left reader.entry at.new) (register_read (left reader.entry at.old)) }
+    ensures lies { IfOk result (ItemLies reader.entry.source.now reader.entry.tokens.now) }
 {
     let name = reader.name(at)?;
     reader.word(at, Word::Equals)?;
@@ -135,7 +147,8 @@ fn digit(reader: Reader<'_>, at: &mut u32) -> Result<bool, Stop>
 }
 
 fn assign(reader: Reader<'_>, at: &mut u32) -> Result<Item, Stop>
-    ensures { Gives (item_of reader.entry.source.now reader.entry.tokens.now) result (left reader.entry at.new) (assign_read (left reader.entry at.old)) }
+    ensures gives { Gives (item_of reader.entry.source.now reader.entry.tokens.now) result (left reader.entry at.new) (assign_read (left reader.entry at.old)) }
+    ensures lies { IfOk result (ItemLies reader.entry.source.now reader.entry.tokens.now) }
 {
     let target = reader.name(at)?;
     reader.word(at, Word::Equals)?;
@@ -144,7 +157,8 @@ fn assign(reader: Reader<'_>, at: &mut u32) -> Result<Item, Stop>
 }
 
 fn always(reader: Reader<'_>, at: &mut u32) -> Result<Item, Stop>
-    ensures { Gives (item_of reader.entry.source.now reader.entry.tokens.now) result (left reader.entry at.new) (always_read (left reader.entry at.old)) }
+    ensures gives { Gives (item_of reader.entry.source.now reader.entry.tokens.now) result (left reader.entry at.new) (always_read (left reader.entry at.old)) }
+    ensures lies { IfOk result (ItemLies reader.entry.source.now reader.entry.tokens.now) }
 {
     let clock = clock(reader, at)?;
     let register = reader.name(at)?;
@@ -159,7 +173,8 @@ fn always(reader: Reader<'_>, at: &mut u32) -> Result<Item, Stop>
 
 // `@(posedge CLOCK)`
 fn clock(reader: Reader<'_>, at: &mut u32) -> Result<Token, Stop>
-    ensures { Gives (name_of reader.entry.source.now) result (left reader.entry at.new) (clock_read (left reader.entry at.old)) }
+    ensures gives { Gives (name_of reader.entry.source.now) result (left reader.entry at.new) (clock_read (left reader.entry at.old)) }
+    ensures lies { IfOk result (LiesIn reader.entry.source.now) }
 {
     reader.word(at, Word::Event)?;
     reader.word(at, Word::Open)?;
@@ -172,7 +187,8 @@ fn clock(reader: Reader<'_>, at: &mut u32) -> Result<Token, Stop>
 // The tokens of a right side, up to its `;`.
 #[tactic(auto, unfolding(crate::specs::Reader::value_read))]
 fn value(reader: Reader<'_>, at: &mut u32) -> Result<Span, Stop>
-    ensures { Gives (marks_in reader.entry.source.now reader.entry.tokens.now) result (left reader.entry at.new) (value_read (left reader.entry at.old)) }
+    ensures gives { Gives (marks_in reader.entry.source.now reader.entry.tokens.now) result (left reader.entry at.new) (value_read (left reader.entry at.old)) }
+    ensures lies { IfOk result (IsRange reader.entry.tokens.now) }
 {
     let from = *at;
     let mut scan = Scan {

@@ -3,6 +3,7 @@ ghost use Rattle.std.specs.Prelude.{◌≡◌, ◌≢◌, ◌≤◌, ◌^◌, �
 ghost use Rattle.std.specs.Option.{is_some};
 ghost use Rattle.vod_token.specs.Span.{LiesIn};
 ghost use Rattle.vod_token.specs.declared.Token.{Token};
+ghost use Rattle.vod_thin_syntax.specs.Lies.{ModuleLies, Lies};
 ghost use Rattle.vod_thin_syntax.specs.Limit.{limit_of};
 ghost use Rattle.vod_thin_syntax.specs.Outcome.{Broken, IsBreak, IsRead, IsFault, place_at, least_of};
 ghost use Rattle.vod_thin_syntax.specs.Refusal.{Reads, Breaks, IsRefusedAt};
@@ -28,6 +29,7 @@ pub fn read_sentence(alloc: Global, source: &[u8], more: bool) -> Result<Sentenc
     requires short { length source.now ≤ 2 ^ 20 }
     requires cut { IsTrue more → length source.now ≡ 2 ^ 20 }
     ensures read { IfOk result (λ sentence. IsRead source.now sentence) }
+    ensures lies { IfOk result (λ sentence. Lies source.now sentence) }
     ensures whole { IfOk result (λ _. more ≡ false) }
     ensures fault { IfErr result (IsFault source.now more) }
 
@@ -58,6 +60,7 @@ fn read(alloc: Global, source: &[u8], more: bool) -> Result<Sentence, SyntaxFaul
     requires short { length source.now ≤ 2 ^ 20 }
     requires cut { IsTrue more → length source.now ≡ 2 ^ 20 }
     ensures read { IfOk result (λ sentence. IsRead source.now sentence) }
+    ensures lies { IfOk result (λ sentence. Lies source.now sentence) }
     ensures whole { IfOk result (λ _. more ≡ false) }
     ensures fault { IfErr result (IsFault source.now more) }
 {
@@ -106,6 +109,7 @@ fn sentence_module(alloc: Global, source: &[u8], tokens: &[Token]) -> Result<Mod
     requires few { length tokens.now ≤ 2 ^ 20 }
     ensures read { IfOk result (λ read. (m : tree.Module Value) × IsSentence (marks_of source.now tokens.now) m
         × (module_of source.now tokens.now read ≡ printed m)) }
+    ensures lies { IfOk result (ModuleLies source.now tokens.now) }
     ensures broken { IfErr result (IsBreak source.now tokens.now) }
 {
     let reader = Reader { source, tokens };

@@ -50,6 +50,7 @@ pub struct Reader<'s> {
 
 impl<'s> Reader<'s> {
     ghost use Rattle.std.specs.Prelude.{◌≡◌, ◌<◌, ◌≤◌, ◌+◌, ◌^◌, length, if◌then◌else◌, false, OnOk, IfOk};
+    ghost use Rattle.vod_token.specs.Span.{LiesIn};
     ghost use Rattle.vod_thin_syntax.specs.View.{name_of};
     ghost use Rattle.vod_thin_syntax.specs.Reader.{first_word, is_next, rest_of, name_read, word_read, step_read};
     ghost use Rattle.vod_thin_syntax.specs.State.{left, Gives};
@@ -124,7 +125,8 @@ impl<'s> Reader<'s> {
 
     /// A name.
     pub fn name(self, at: &mut u32) -> Result<Token, Stop>
-        ensures { Gives (name_of self.entry.source.now) result (left self.entry at.new) (name_read (left self.entry at.old)) }
+        ensures gives { Gives (name_of self.entry.source.now) result (left self.entry at.new) (name_read (left self.entry at.old)) }
+        ensures lies { IfOk result (LiesIn self.entry.source.now) }
     {
         match self.tokens.get(*at as usize) {
             Some(token) if word_at(self.source, *token).is_none() => {

@@ -1,4 +1,4 @@
-use Rattle.std.proofs.Common.{◌≡◌, drop, false}
+use Rattle.std.proofs.Common.{◌≡◌, drop}
 use Rattle.std.specs.List.{slice_get}
 use Rattle.vod_thin_syntax.specs.Limit.{behind, crowded}
 use Rattle.vod_thin_syntax.proofs.limit.crowded.Given as goal

@@ -1,4 +1,4 @@
-use Rattle.std.proofs.Common.{◌≡◌, ◌-◌, ◌^◌, ◌<◌, ◌≤◌, [], length}
+use Rattle.std.proofs.Common.{◌≡◌, ◌-◌, ◌^◌, ◌<◌, ◌≤◌, length}
 use Rattle.std.specs.Prelude.{slice_range}
 use Rattle.vod_thin_syntax.specs.Reader.{scan_read, value_read}
 use Rattle.vod_thin_syntax.specs.State.{left}

@@ -1,7 +1,7 @@
-use Rattle.std.proofs.Common.{◌≡◌, ◌∷◌, ℕ, List, Option, drop, length, sym, ◌∙◌, ap, subst}
+use Rattle.std.proofs.Common.{◌≡◌, ℕ, List, Option, drop, length, sym, ◌∙◌, ap, subst}
 use Rattle.std.specs.Option.{unwrap_or}
 use Rattle.vod_token.specs.declared.Token.{Token}
-use Rattle.vod_thin_syntax.proofs.Breaking.{LeastBreak, sentence_broken, number_broken, break_at, refused_at}
+use Rattle.vod_thin_syntax.proofs.Breaking.{sentence_broken, number_broken, break_at, refused_at}
 use Rattle.vod_thin_syntax.specs.Limit.{limit_of}
 use Rattle.vod_thin_syntax.specs.Outcome.{Broken, place_at, least_of}
 use Rattle.vod_thin_syntax.specs.Refusal.{IsRefusedAt}

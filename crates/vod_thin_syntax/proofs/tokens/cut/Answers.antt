@@ -1,6 +1,5 @@
-use Rattle.std.proofs.Common.{◌≡◌, [], ◌++◌, arith, drop, length, sym, subst, ◌∙◌, ap, append-nil, append_assoc, Some}
-use Rattle.std.proofs.lemmas.Grind.{common_steps}
-use Rattle.vod_thin_syntax.proofs.TokenLaws.{skip_step, stop_step, behind_token, read_all}
+use Rattle.std.proofs.Common.{[], arith, sym, subst, ◌∙◌, append-nil, Some}
+use Rattle.vod_thin_syntax.proofs.TokenLaws.{skip_step, stop_step, read_all}
 use Rattle.vod_thin_syntax.specs.Tokens.{Falls, HoldsNone}
 use Rattle.vod_thin_syntax.proofs.tokens.cut.Goals as goal
 

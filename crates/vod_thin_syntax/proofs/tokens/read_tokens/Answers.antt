@@ -1,4 +1,4 @@
-use Rattle.std.proofs.Common.{refl, arith, length}
+use Rattle.std.proofs.Common.{refl, arith}
 use Rattle.vod_thin_syntax.proofs.TokenLaws.{TokenLaws, falls_lie}
 use Rattle.vod_thin_syntax.proofs.tokens.read_tokens.Goals as goal
 

@@ -1,7 +1,5 @@
-use Rattle.std.proofs.Common.{◌∙◌, ap, sym, subst, take}
-use Rattle.std.specs.List.{prefix_len}
+use Rattle.std.proofs.Common.{◌∙◌, sym, subst}
 use Rattle.vod_token.proofs.Fronts.{word_front, token_front, refused_front}
-use Rattle.vod_token.specs.Form.{is_word_byte}
 use Rattle.vod_token.specs.Front.{IsFront}
 use Rattle.vod_token.proofs.lexeme.longest_token.Goals as goal
 
