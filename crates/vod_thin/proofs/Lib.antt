@@ -12,3 +12,4 @@ pub mod Accepted
 pub mod Whole
 pub mod Plain
 pub mod Made
+pub mod Designs

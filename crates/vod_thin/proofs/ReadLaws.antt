@@ -1,13 +1,22 @@
 -- A source has one design, or is refused at one place.
-use Rattle.std.proofs.Common.{◌≡◌, ◌≢◌, ℕ, Bool, true, false, List, Option, None, Some, refl, sym, ap, ◌∙◌, subst}
+use Rattle.std.proofs.Common.{◌≡◌, ◌≢◌, ℕ, Bool, true, false, List, [], Option, None, Some, refl, sym, ap, ◌∙◌, subst}
 use Rattle.std.specs.Prelude.{Result, Ok, Err, IfOk, IfErr, MatchResult}
 use Rattle.vod_token.specs.declared.Token.{Token}
 use Rattle.vod_design.specs.Netlist.{Netlist}
 use Rattle.vod_thin_syntax.specs.Refusal.{Reads, Breaks, IsRefusedAt}
-use Rattle.vod_thin_syntax.specs.Syntax.{Value, Module}
+use Rattle.vod_thin_syntax.specs.Limit.{sooner, limit_of}
+use Rattle.vod_thin_syntax.specs.Outcome as outcome
+use Rattle.vod_thin_syntax.specs.Outcome.{IsRead}
+use Rattle.vod_thin_syntax.specs.Syntax.{Value, Module, printed}
+use Rattle.vod_thin_syntax.specs.View.{module_of}
+use Rattle.vod_thin_syntax.specs.declared.fault.SyntaxFault.{SyntaxFault}
+use Rattle.vod_thin_syntax.specs.declared.fault.SyntaxFault.TheVariants as syntax
+use Rattle.vod_thin_syntax.specs.declared.syntax.Sentence.{Sentence}
 use Rattle.vod_thin.specs.declared.fault.ThinFault.{ThinFault}
 use Rattle.vod_thin.specs.declared.fault.ThinFault.TheVariants.{At, Memory}
-use Rattle.vod_thin.specs.Faults.{IsFault}
+use Rattle.vod_thin.specs.Faults.{fault_of, IsFault}
+use Rattle.vod_thin.specs.Rules.{least, faults}
+use Rattle.vod_thin.proofs.Leasts.{sooner_some, least_none}
 use Rattle.vod_thin.specs.Netlists.{design_of}
 use Rattle.vod_thin.specs.Thin.{first_fault, IsThin, IsRefused}
 use Rattle.vod_thin.specs.Thin.IsRefused.{unread, faulty}
@@ -61,3 +70,37 @@ pub refused : OneReading → Unbroken → RefusedOnce → (source : List ℕ) (m
 refused one whole once source more (Ok d) thin last fault place is = thin_unrefused one whole source d more place last thin is
 refused one whole once source more (Err (At other)) thin last fault place is = λ _. ap At (one_place one whole once source more other place fault is)
 refused one whole once source more (Err Memory) thin last fault place is = λ other. absurd (other refl)
+
+-- a sentence that isn't read is no module
+pub fault_kept : (source : List ℕ) (more : Bool) (fault : SyntaxFault) → outcome.IsFault source more fault → IsFault source more (fault_of fault)
+fault_kept source more (syntax.At place) h = unread more place h
+fault_kept source more syntax.Memory h = tt
+
+-- the first fault of a sentence
+pub fault_found : (source : List ℕ) (s : Sentence) (place : ℕ) (fault : Option ℕ) → IsRead source s → fault ≡ least (faults (module_of source s.tokens.items s.module)) → sooner s.limit fault ≡ Some place → IsRefused source false place
+fault_found source s place fault read e found =
+    let rules : fault ≡ least (faults (printed read.tree)) = e ∙ ap (λ m. least (faults m)) read.stands in
+    faulty s.tokens.items read.tree place read.reads (ap (λ o. sooner o (least (faults (printed read.tree)))) (sym read.limit) ∙ ap (sooner s.limit) (sym rules) ∙ found)
+
+-- where there is none
+pub record Faultless (source : List ℕ) (s : Sentence) (m : Module Value) : Type 0 where
+  pub limit : limit_of source s.tokens.items ≡ None
+  pub none : faults (printed m) ≡ []
+
+pub faultless : (source : List ℕ) (s : Sentence) (fault : Option ℕ) → (read : IsRead source s) → fault ≡ least (faults (module_of source s.tokens.items s.module)) → sooner s.limit fault ≡ None → Faultless source s read.tree
+faultless source s fault read e found =
+    let both = sooner_some s.limit fault found in
+    record {
+      limit = sym read.limit ∙ both.0;
+      none = ap faults (sym read.stands) ∙ least_none (faults (module_of source s.tokens.items s.module)) (sym e ∙ both.1);
+    }
+
+-- its design
+pub thin_of : (source : List ℕ) (s : Sentence) (d : Netlist) (read : IsRead source s) → Faultless source s read.tree → d ≡ design_of read.tree → IsThin source d
+thin_of source s d read free e = record {
+  tokens = s.tokens.items;
+  tree = read.tree;
+  reads = read.reads;
+  faultless = ap (λ o. sooner o (least (faults (printed read.tree)))) free.limit ∙ ap least free.none;
+  design = e;
+}

@@ -1,17 +1,21 @@
 //! A source of the thin form, as its design.
 ghost use Rattle.std.specs.Prelude.{◌≡◌, ◌≢◌, ◌≤◌, ◌^◌, ℕ, List, Bool, false, length, IsTrue, IfOk, IfErr, MatchResult};
 ghost use Rattle.vod_design.specs.Names.{HasPlainNames};
-ghost use Rattle.vod_design.specs.Netlist.{Netlist};
+ghost use Rattle.vod_design.specs.Netlist.{Netlist, IsAccepted};
+ghost use Rattle.vod_thin_syntax.specs.Outcome.{IsRead};
+ghost use Rattle.vod_thin_syntax.specs.View.{module_of};
 ghost use Rattle.vod_thin.specs.Faults.{IsFault};
+ghost use Rattle.vod_thin.specs.Machine.{read_expr};
+ghost use Rattle.vod_thin.specs.Netlists.{design_by};
 ghost use Rattle.vod_thin.specs.Thin.{IsThin, IsRefused};
 
 use crate::ThinFault;
-use crate::judge::{judge_names, sooner};
+use crate::judge::{Judge, judge_names, sooner};
 use crate::netlist::Builder;
 use crate::text::Text;
-use std::alloc::Global;
+use std::alloc::{AllocError, Global};
 use vod_design::thin::{Design, expr_by_operands};
-use vod_thin_syntax::{Sentence, one_sentence, read_sentence};
+use vod_thin_syntax::{Module, Sentence, one_sentence, read_sentence};
 use vod_token::one_token;
 
 /// The design of a source of the thin form, or the least place where it isn't of it. The source has at most 1,048,576
@@ -34,8 +38,7 @@ pub fn read_thin(alloc: Global, source: &[u8], more: bool) -> Result<Design, Thi
     ensures refuses { (place : ℕ) → IsRefused source.now more place →
         MatchResult result (λ _. ⊥) (λ fault. (fault ≢ ThinFault.Memory) → fault ≡ ThinFault.At place) }
 {
-    one_design();
-    one_place();
+    one_sentence();
     read(alloc, source, more)
 }
 
@@ -71,23 +74,57 @@ fn read(alloc: Global, source: &[u8], more: bool) -> Result<Design, ThinFault>
     ensures whole { IfOk result (λ _. more ≡ false) }
     ensures refused { IfErr result (IsFault source.now more) }
 {
+    match read_sentence(alloc, source, more) {
+        Ok(sentence) => sentence_design(alloc, source, &sentence),
+        Err(fault) => Err(ThinFault::from(fault)),
+    }
+}
+
+// The design of a sentence, or its first fault.
+fn sentence_design(
+    alloc: Global,
+    source: &[u8],
+    sentence: &Sentence,
+) -> Result<Design, ThinFault>
+    requires short { length source.now ≤ 2 ^ 20 }
+    requires read { IsRead source.now sentence.now }
+    ensures thin { IfOk result (λ d. IsThin source.now d) }
+    ensures plain { IfOk result (λ d. HasPlainNames d) }
+    ensures refused { IfErr result (IsFault source.now false) }
+{
     expr_by_operands();
     one_token();
-    let sentence = read_sentence(alloc, source, more)?;
     let text = Text {
         source,
         tokens: &sentence.tokens,
     };
     let judged = judge_names(alloc, &text, &sentence.module)?;
-    if let Some(place) = sooner(sentence.limit, judged.fault) {
-        return Err(ThinFault::At(place));
+    match sooner(sentence.limit, judged.fault) {
+        Some(place) => Err(ThinFault::At(place)),
+        None => {
+            let design = build(alloc, text, &judged.names, &sentence.module)?;
+            Ok(design)
+        }
     }
+}
+
+// The design of a module whose names keep the rules.
+fn build<'s>(
+    alloc: Global,
+    text: Text<'s>,
+    names: &Judge<'s>,
+    parsed: &Module,
+) -> Result<Design, AllocError>
+    requires few { length names.now.signals ≤ 2 ^ 25 }
+    requires accepted { IsAccepted (design_by names.now.signals names.now.clocks (read_expr names.now.signals) (module_of text.source.now text.tokens.now parsed.now)) }
+    ensures { IfOk result (λ d. d ≡ design_by names.now.signals names.now.clocks (read_expr names.now.signals) (module_of text.entry.source.now text.entry.tokens.now parsed.now)) }
+{
     let builder = Builder {
         alloc,
         text,
-        signals: &judged.names.signals,
-        clocks: &judged.names.clocks,
+        signals: &names.signals,
+        clocks: &names.clocks,
     };
-    let parts = builder.parts(&sentence.module)?;
+    let parts = builder.parts(parsed)?;
     Ok(Design::of(parts))
 }

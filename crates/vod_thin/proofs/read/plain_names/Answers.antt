@@ -1,13 +1,11 @@
 -- The design of a module without a fault is the one that is made of it.
-use Rattle.std.proofs.Common.{◌≡◌, ℕ, List, [], ◌∷◌, Option, None, Some, sym, ◌∙◌, subst}
-use Rattle.vod_design.specs.declared.thin.Bit.TheVariants as bit
+use Rattle.std.proofs.Common.{◌≡◌, ℕ, List, [], ◌∷◌, Option, None, Some, refl, sym, ◌∙◌, subst}
 use Rattle.vod_design.specs.Names.{HasPlainNames}
 use Rattle.vod_thin_syntax.specs.Limit.{sooner, limit_of}
 use Rattle.vod_thin_syntax.specs.Syntax.{printed}
-use Rattle.vod_thin_syntax.specs.Syntax as tree
 use Rattle.vod_thin.specs.Rules.{least, faults}
-use Rattle.vod_thin.specs.Signals.{signals_of, texts, clocks}
-use Rattle.vod_thin.proofs.Made.{ReadsBy, made}
+use Rattle.vod_thin.proofs.Designs.{reads_by}
+use Rattle.vod_thin.proofs.Made.{made}
 use Rattle.vod_thin.proofs.read.plain_names.Goals as goal
 
 none_later : (a b : Option ℕ) → sooner a b ≡ None → b ≡ None
@@ -25,7 +23,7 @@ no_places (p ∷ ps) e = some p (least ps) e
 
 pub returns : goal.returns
 returns c = λ source d short thin.
-    let reads_by : ReadsBy = ? in
+    let laws = reads_by c.expr_by_operands.ensures.signal c.expr_by_operands.ensures.inverted c.expr_by_operands.ensures.and c.expr_by_operands.ensures.xor c.expr_by_operands.ensures.or in
     let none : faults (printed thin.tree) ≡ [] = no_places (faults (printed thin.tree)) (none_later (limit_of source thin.tokens) (least (faults (printed thin.tree))) thin.faultless) in
-    let it = made reads_by c.one_token.ensures.some source thin.tokens thin.tree _ _ short thin.reads none refl refl in
+    let it = made laws c.one_token.ensures.some source thin.tokens thin.tree _ _ short thin.reads none refl refl in
     subst HasPlainNames (it.is ∙ sym thin.design) it.plain
