@@ -1,5 +1,5 @@
 -- A sentence without a fault is made into its design.
-use Rattle.std.proofs.Common.{◌≡◌, ℕ, ◌≤◌, ◌^◌, ◌++◌, ◌∷◌, [], List, Option, None, length, refl, sym, ap, ◌∙◌, subst}
+use Rattle.std.proofs.Common.{◌≡◌, ℕ, ◌≤◌, ◌^◌, ◌++◌, ◌∷◌, [], All, List, Option, None, length, refl, sym, ap, ◌∙◌, subst}
 use Rattle.vod_token.specs.declared.Token.{Token}
 use Rattle.vod_design.specs.declared.thin.Bit.{Bit}
 use Rattle.vod_design.specs.declared.thin.Bit.TheVariants as bit
@@ -10,7 +10,9 @@ use Rattle.vod_design.specs.Expr.{value_of, reads}
 use Rattle.vod_design.specs.Names.{HasPlainNames}
 use Rattle.vod_design.specs.Netlist.{Netlist, IsAccepted}
 use Rattle.vod_thin_syntax.specs.Limit.{sooner}
+use Rattle.vod_thin_syntax.specs.Names.{names_of, IsIdentifier}
 use Rattle.vod_thin_syntax.specs.Outcome.{IsRead}
+use Rattle.vod_thin_syntax.specs.Refusal.{Reads}
 use Rattle.vod_thin_syntax.specs.Syntax as tree
 use Rattle.vod_thin_syntax.specs.Syntax.{Mark, Value, Module, printed}
 use Rattle.vod_thin_syntax.specs.View.{module_of}
@@ -50,13 +52,17 @@ pub record Stands (source : List ℕ) (d : Netlist) (es : List (List ℕ × Kind
   pub plain : HasPlainNames d
   pub few : length es ≤ 2 ^ 25
 
-pub stands : ReadsBy → SomeBytes → (source : List ℕ) (s : Sentence) (ts : List Token) (fault : Option ℕ) (es : List (List ℕ × Kind)) (ws : List (List ℕ)) → length source ≤ 2 ^ 20 → IsRead source s → ts ≡ s.tokens.items
+-- the names of modules
+abbrev pub Identified : Type 0
+Identified = (source : List ℕ) (ts : List Token) (m : Module Value) → Reads source ts m → All IsIdentifier (names_of m)
+
+pub stands : ReadsBy → SomeBytes → Identified → (source : List ℕ) (s : Sentence) (ts : List Token) (fault : Option ℕ) (es : List (List ℕ × Kind)) (ws : List (List ℕ)) → length source ≤ 2 ^ 20 → IsRead source s → ts ≡ s.tokens.items
     → fault ≡ least (faults (module_of source ts s.module)) → es ≡ first_entries [] (signals_of (module_of source ts s.module)) → ws ≡ distinct [] (texts (clocks (module_of source ts s.module).items))
     → sooner s.limit fault ≡ None → Stands source (design_by es ws (read_expr es) (module_of source ts s.module)) es
-stands laws some source s ts fault es ws short read all e signals waited none =
+stands laws some identified source s ts fault es ws short read all e signals waited none =
     let same : module_of source ts s.module ≡ printed read.tree = ap (λ us. module_of source us s.module) all ∙ read.stands in
     let free = faultless source s fault read (e ∙ ap (λ us. least (faults (module_of source us s.module))) all) none in
-    let m = made laws some source s.tokens.items read.tree es ws short read.reads free.none (signals ∙ ap (λ (v : Module (List Mark)). first_entries [] (signals_of v)) same) (waited ∙ ap (λ (v : Module (List Mark)). distinct [] (texts (clocks v.items))) same) in
+    let m = made laws some source s.tokens.items read.tree es ws short read.reads (identified source s.tokens.items read.tree read.reads) free.none (signals ∙ ap (λ (v : Module (List Mark)). first_entries [] (signals_of v)) same) (waited ∙ ap (λ (v : Module (List Mark)). distinct [] (texts (clocks v.items))) same) in
     let design : design_by es ws (read_expr es) (module_of source ts s.module) ≡ design_by es ws (read_expr es) (printed read.tree) = ap (design_by es ws (read_expr es)) same in
     record {
       thin = thin_of source s (design_by es ws (read_expr es) (module_of source ts s.module)) read free (design ∙ m.is);

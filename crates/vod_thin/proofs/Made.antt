@@ -16,6 +16,7 @@ use Rattle.vod_design.specs.Expr.{reads}
 use Rattle.vod_design.specs.Names.{HasPlainNames}
 use Rattle.vod_design.specs.Netlist.{Netlist, IsAccepted}
 use Rattle.vod_thin_syntax.specs.declared.words.Word.TheVariants as word
+use Rattle.vod_thin_syntax.specs.Names.{names_of, IsIdentifier}
 use Rattle.vod_thin_syntax.specs.Refusal.{Reads}
 use Rattle.vod_thin_syntax.specs.Syntax as tree
 use Rattle.vod_thin_syntax.specs.Syntax.{Name, Mark, Named, Fixed, Value, Plain, Group, Joined, Item, Wire, Register, Assign, Always, Port, Module, value_marks, item_marks, port_marks, ports_marks, sentence, is_grouped, has_grouped, item_printed, printed}
@@ -34,7 +35,7 @@ use Rattle.vod_thin.proofs.Good.{Kept, kept, all_entries}
 use Rattle.vod_thin.proofs.Named.{table, net, number, numbers}
 use Rattle.vod_thin.proofs.Accepted.{ReadsRight, AllReadRight}
 use Rattle.vod_thin.proofs.Whole.{accepted, few_signals}
-use Rattle.vod_thin.proofs.Plain.{SomeBytes, PlainMarks, PlainInputs, falls_few, falls_plain, inputs_plain, plain_names}
+use Rattle.vod_thin.proofs.Plain.{SomeBytes, PlainInputs, falls_few, inputs_plain, plain_names}
 
 -- the same signals and clocks with the tokens of right sides
 declared_printed : (items : List (Item Value)) → flat_map declared_by (map item_printed items) ≡ flat_map declared_by items
@@ -189,9 +190,9 @@ same_net : (n : List ℕ) (ss : List design_signal.Signal) (i j : List Input) (d
     → (let x : Netlist = record { name = n; signals = ss; inputs = i; drivers = ds; blocks = bs; initials = vs } in let y : Netlist = record { name = n; signals = ss; inputs = j; drivers = es; blocks = cs; initials = vs } in x ≡ y)
 same_net n ss i j ds es bs cs vs p q r = cc
 
-pub made : ReadsBy → SomeBytes → (source : List ℕ) (ts : List Token) (m : Module Value) (es : List (List ℕ × Kind)) (ws : List (List ℕ)) → length source ≤ 2 ^ 20 → Reads source ts m → faults (printed m) ≡ []
+pub made : ReadsBy → SomeBytes → (source : List ℕ) (ts : List Token) (m : Module Value) (es : List (List ℕ × Kind)) (ws : List (List ℕ)) → length source ≤ 2 ^ 20 → Reads source ts m → All IsIdentifier (names_of m) → faults (printed m) ≡ []
     → es ≡ first_entries [] (signals_of (printed m)) → ws ≡ distinct [] (texts (clocks (printed m).items)) → Made (design_by es ws (read_expr es) (printed m)) es m
-made laws some source ts m es ws short read none signals waited =
+made laws some source ts m es ws short read names none signals waited =
     let p : Module (List Mark) = printed m in
     let k : Kept p = kept p none in
     let grouped : Grouped m.items = read.sentence.«module».grouped in
@@ -215,7 +216,7 @@ made laws some source ts m es ws short read none signals waited =
       is = to_net ∙ to_design ∙ ap (λ ds. design_by (entries ds) (texts (clocks m.items)) (expr_of (entries ds)) m) (signals_printed m);
       accepted = subst IsAccepted (sym to_net) (accepted p (read_expr (table p)) k (read_right laws p m.items grouped) few);
       plain = subst HasPlainNames (sym to_net) (plain_names p (read_expr (table p)) k
-          (subst PlainInputs (sym (signals_printed m)) (inputs_plain value_marks m (subst PlainMarks read.sentence.is (falls_plain read.falls source refl)))));
+          (subst PlainInputs (sym (signals_printed m)) (inputs_plain m names)));
       few = subst (λ (v : List (List ℕ × Kind)). length v ≤ 2 ^ 25) (sym all) (at_most (length (table p)) (length (signals_of p)) (length p.ports + length p.items) (length-map (signals_of p) (λ (signal : Declared). (signal.name.bytes, signal.kind))) (few_signals p) few (lit≤ tt));
     }
   where

@@ -5,25 +5,16 @@ use Rattle.std.specs.Char.{is_ascii_digit}
 use Rattle.std.specs.List.Sorted.{IsStrictlyIncreasing}
 use Rattle.std.specs.Prelude.{slice_index_or}
 use Rattle.std.proofs.lemmas.Bool.Decides.{nat_tests}
-use Rattle.std.proofs.lemmas.List.{length-map, get_or-map, drop-drop}
-use Rattle.std.proofs.lemmas.List.Elements.{All-map}
+use Rattle.std.proofs.lemmas.List.{length-map, get_or-map}
+use Rattle.std.proofs.lemmas.List.Elements.{All-head, All-tail, All-map}
 use Rattle.std.proofs.lemmas.List.Kept.{AllPairs-from_increasing}
-use Rattle.std.proofs.Math.Seq.{take-append_seam, drop-append_seam}
-use Rattle.vod_token.specs.Cut.{Holds, token}
-use Rattle.vod_token.specs.Form.{Form, IsSpelled, IsWord, is_letter, is_word_byte, kind_of}
-use Rattle.vod_token.specs.Form.Form.{Word, Plain, Based, Directive, Symbol}
-use Rattle.vod_token.specs.Nesting.{slice_of}
-use Rattle.vod_token.specs.Word.{is_reserved}
+use Rattle.vod_token.specs.Cut.{Holds}
+use Rattle.vod_token.specs.Form.{Form, IsWord, is_letter, is_word_byte}
 use Rattle.vod_token.specs.declared.Token.{Token}
-use Rattle.vod_token.specs.declared.TokenKind.{TokenKind}
-use Rattle.vod_token.specs.declared.TokenKind.TheVariants as kinds
-use Rattle.vod_thin_syntax.specs.declared.words.Word as words
-use Rattle.vod_thin_syntax.specs.declared.words.Word.TheVariants as word
-use Rattle.vod_thin_syntax.specs.Words.{spelling, keyword_of, symbol_of, word_of}
-use Rattle.vod_thin_syntax.specs.Tokens.{IsOfForm, Falls}
+use Rattle.vod_thin_syntax.specs.Tokens.{Falls}
+use Rattle.vod_thin_syntax.specs.Names.{item_names, names_of, IsIdentifier}
 use Rattle.vod_thin_syntax.specs.Tokens.Falls.{ends, skips, takes, stops}
-use Rattle.vod_thin_syntax.specs.Syntax.{Name, Mark, Named, Fixed, Value, Item, Wire, Register, Assign, Always, Port, Module, value_marks, item_marks, port_marks, ports_marks, sentence}
-use Rattle.vod_thin_syntax.specs.View.{name_of, mark_of, mark_by, marks_of}
+use Rattle.vod_thin_syntax.specs.Syntax.{Name, Mark, Value, Item, Wire, Register, Assign, Always, Port, Module}
 use Rattle.vod_design.specs.declared.thin.Expr.{Expr}
 use Rattle.vod_design.specs.declared.thin.Signal as design_signal
 use Rattle.vod_design.specs.Names.{input_names, is_plain, HasPlainNames}
@@ -66,54 +57,6 @@ word_plain : (text : List ℕ) → IsWord text → is_plain text ≡ true
 word_plain [] h = absurd h
 word_plain (b ∷ bs) h = ap (λ v. v && is_plain bs) (word_byte_plain b (letter_byte b h.0)) ∙ bytes_plain bs h.1
 
--- words and symbols are found by their spellings
-spelled_word : (w : words.Word) → word_of (spelling w) ≡ Some w
-unfolding keyword_of symbol_of
-spelled_word word.Module = refl
-spelled_word word.Input = refl
-spelled_word word.Output = refl
-spelled_word word.Wire = refl
-spelled_word word.Reg = refl
-spelled_word word.Assign = refl
-spelled_word word.Always = refl
-spelled_word word.Posedge = refl
-spelled_word word.Endmodule = refl
-spelled_word word.Zero = refl
-spelled_word word.One = refl
-spelled_word word.Open = refl
-spelled_word word.Close = refl
-spelled_word word.Comma = refl
-spelled_word word.Semicolon = refl
-spelled_word word.Equals = refl
-spelled_word word.And = refl
-spelled_word word.Xor = refl
-spelled_word word.Or = refl
-spelled_word word.Not = refl
-spelled_word word.Event = refl
-spelled_word word.Nonblocking = refl
-
--- a token of the form that is no word or symbol is plain
-name_plain : (text : List ℕ) (form : Form) → IsSpelled text form → kind_of text form ≡ kinds.Name → is_plain text ≡ true
-name_plain text Word spelled e = word_plain text spelled
-name_plain text (Plain value) spelled e = cc
-name_plain text (Based size signed value) spelled e = cc
-name_plain text Directive spelled e = cc
-name_plain text Symbol spelled e = cc
-
--- names are plain
-abbrev pub PlainMark : Mark → Type 0
-PlainMark (Named name) = is_plain name.bytes ≡ true
-PlainMark (Fixed word) = Unit {0}
-
-abbrev pub PlainMarks : List Mark → Type 0
-PlainMarks [] = Unit {0}
-PlainMarks (mark ∷ marks) = PlainMark mark × PlainMarks marks
-
-mark_plain : (place : ℕ) (text : List ℕ) (form : Form) → IsSpelled text form → IsOfForm text (kind_of text form) → (found : Option words.Word) → word_of text ≡ found → (let name : Name = record { place = place; bytes = text } in PlainMark (mark_by name found))
-mark_plain place text form spelled of (Some w) e = tt
-mark_plain place text form spelled (inl named) None e = name_plain text form spelled named
-mark_plain place text form spelled (inr (w, same)) None e = let there : word_of text ≡ Some w = ap word_of same ∙ spelled_word w in cc
-
 -- what is known of tokens
 abbrev pub SomeBytes : Type 0
 SomeBytes = (rest : List ℕ) (form : Form) → Holds [] rest form → ⊥
@@ -131,42 +74,16 @@ falls_few some (takes at text rest form ts stop holds of more) =
     let one = some_bytes some text rest form holds in omega arith
 falls_few some (stops at b bs dark none) = omega arith
 
-behind_text : (source : List ℕ) (at : ℕ) (text rest : List ℕ) → drop at source ≡ text ++ rest → drop (at + length text) source ≡ rest
-behind_text source at text rest e = sym (drop-drop (length text) at source) ∙ ap (drop (length text)) e ∙ drop-append_seam text rest
-
-token_text : (source : List ℕ) (at : ℕ) (text rest : List ℕ) (form : Form) → drop at source ≡ text ++ rest → slice_of source (token at text form) ≡ text
-token_text source at text rest form e =
-    let long : at + length text - at ≡ length text = omega arith in
-    ap (λ n. take n (drop at source)) long ∙ ap (take (length text)) e ∙ take-append_seam text rest
-
-pub falls_plain : {at : ℕ} {bytes : List ℕ} {ts : List Token} {stop : Option ℕ} → Falls at bytes ts stop → (source : List ℕ) → drop at source ≡ bytes → PlainMarks (marks_of source ts)
-falls_plain (ends at) source e = tt
-falls_plain (skips at b bs ts stop white more) source e = falls_plain more source (behind_text source at (b ∷ []) bs e)
-falls_plain (takes at text rest form ts stop holds of more) source e =
-    let named : List ℕ → Name = λ bytes. record { place = at; bytes = bytes } in
-    ( subst (λ bytes. PlainMark (mark_by (named bytes) (word_of bytes))) (sym (token_text source at text rest form e)) (mark_plain at text form holds.spelled of (word_of text) refl)
-    , falls_plain more source (behind_text source at text rest e))
-falls_plain (stops at b bs dark none) source e = tt
-
-plain_front : (xs ys : List Mark) → PlainMarks (xs ++ ys) → PlainMarks xs
-plain_front [] ys h = tt
-plain_front (x ∷ xs) ys h = (h.0, plain_front xs ys h.1)
-
 -- the names of ports are plain
 abbrev PlainPorts : List Port → Type 0
 PlainPorts [] = Unit {0}
 PlainPorts (port ∷ ports) = (is_plain port.name.bytes ≡ true) × PlainPorts ports
 
-more_plain : (ports : List Port) → PlainMarks (flat_map (λ next. Fixed word.Comma ∷ port_marks next) ports) → PlainPorts ports
-more_plain [] h = tt
-more_plain (port ∷ ports) h = (h.1.1.0, more_plain ports h.1.1.1)
-
-ports_plain : (ports : List Port) → PlainMarks (ports_marks ports) → PlainPorts ports
-ports_plain [] h = tt
-ports_plain (port ∷ ports) h = (h.1.0, more_plain ports h.1.1)
-
-module_plain : {V : Type 0} (marks : V → List Mark) (m : Module V) → PlainMarks (sentence marks m) → PlainPorts m.ports
-module_plain marks m h = ports_plain m.ports (plain_front (ports_marks m.ports) (Fixed word.Close ∷ Fixed word.Semicolon ∷ (flat_map (item_marks marks) m.items ++ Fixed word.Endmodule ∷ [])) h.1.1.1)
+ports_plain : (ports : List Port) (more : List Name) → All IsIdentifier (map (λ port. port.name) ports ++ more) → PlainPorts ports
+ports_plain [] more h = tt
+ports_plain (port ∷ ports) more h =
+    let rest : List Name = map (λ port. port.name) ports ++ more in
+    (word_plain port.name.bytes (All-head IsIdentifier port.name rest h).word, ports_plain ports more (All-tail IsIdentifier port.name rest h))
 
 -- and so are those of inputs
 abbrev pub PlainInputs : List Declared → Type 0
@@ -184,8 +101,10 @@ signals_plain : (ports : List Port) (more : List Declared) → PlainPorts ports 
 signals_plain [] more h g = g
 signals_plain (port ∷ ports) more h g = (λ _. h.0, signals_plain ports more h.1 g)
 
-pub inputs_plain : {V : Type 0} (marks : V → List Mark) (m : Module V) → PlainMarks (sentence marks m) → PlainInputs (signals_of m)
-inputs_plain marks m h = signals_plain m.ports (flat_map declared_by m.items) (module_plain marks m h) (items_plain m.items)
+pub inputs_plain : (m : Module Value) → All IsIdentifier (names_of m) → PlainInputs (signals_of m)
+inputs_plain m h =
+    let ports : List Name = map (λ port. port.name) m.ports ++ flat_map item_names m.items in
+    signals_plain m.ports (flat_map declared_by m.items) (ports_plain m.ports (flat_map item_names m.items) (All-tail IsIdentifier m.name ports h)) (items_plain m.items)
 
 -- the input with a number
 input_there : (ds : List Declared) (s : ℕ) → slice_index_or (map inputs_test (entries ds)) s false ≡ true → (d : Declared) × (slice_get ds s ≡ Some d) × (is_input (Some d.kind) ≡ true)

@@ -15,7 +15,7 @@ use crate::netlist::Builder;
 use crate::text::Text;
 use std::alloc::{AllocError, Global};
 use vod_design::thin::{Design, expr_by_operands};
-use vod_thin_syntax::{Module, Sentence, one_sentence, read_sentence};
+use vod_thin_syntax::{Module, Sentence, names_are_identifiers, one_sentence, read_sentence};
 use vod_token::one_token;
 
 /// The design of a source of the thin form, or the least place where it isn't of it. The source has at most 1,048,576
@@ -94,6 +94,7 @@ fn sentence_design(
 {
     expr_by_operands();
     one_token();
+    names_are_identifiers();
     let text = Text {
         source,
         tokens: &sentence.tokens,

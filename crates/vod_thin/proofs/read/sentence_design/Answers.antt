@@ -20,13 +20,13 @@ returns-in-Some-clause-refused c =
 pub build-requires-clause-few : goal.build-requires-clause-few
 build-requires-clause-few c =
     let laws = reads_by c.expr_by_operands.ensures.signal c.expr_by_operands.ensures.inverted c.expr_by_operands.ensures.and c.expr_by_operands.ensures.xor c.expr_by_operands.ensures.or in
-    (stands laws c.one_token.ensures.some c.args.source.now c.args.sentence.now c.deref.result.now c.in_ok-judged.judged.fault c.in_ok-judged.judged.names.signals c.in_ok-judged.judged.names.clocks c.requires.short c.requires.read c.deref.ensures.value
+    (stands laws c.one_token.ensures.some c.names_are_identifiers.ensures.plain c.args.source.now c.args.sentence.now c.deref.result.now c.in_ok-judged.judged.fault c.in_ok-judged.judged.names.signals c.in_ok-judged.judged.names.clocks c.requires.short c.requires.read c.deref.ensures.value
     c.in_ok-judged.ensures.fault c.in_ok-judged.ensures.signals c.in_ok-judged.ensures.clocks (sym c.sooner.ensures ∙ c.in-None.is)).few
 
 pub build-requires-clause-accepted : goal.build-requires-clause-accepted
 build-requires-clause-accepted c =
     let laws = reads_by c.expr_by_operands.ensures.signal c.expr_by_operands.ensures.inverted c.expr_by_operands.ensures.and c.expr_by_operands.ensures.xor c.expr_by_operands.ensures.or in
-    (stands laws c.one_token.ensures.some c.args.source.now c.args.sentence.now c.deref.result.now c.in_ok-judged.judged.fault c.in_ok-judged.judged.names.signals c.in_ok-judged.judged.names.clocks c.requires.short c.requires.read c.deref.ensures.value
+    (stands laws c.one_token.ensures.some c.names_are_identifiers.ensures.plain c.args.source.now c.args.sentence.now c.deref.result.now c.in_ok-judged.judged.fault c.in_ok-judged.judged.names.signals c.in_ok-judged.judged.names.clocks c.requires.short c.requires.read c.deref.ensures.value
     c.in_ok-judged.ensures.fault c.in_ok-judged.ensures.signals c.in_ok-judged.ensures.clocks (sym c.sooner.ensures ∙ c.in-None.is)).accepted
 
 pub returns-in_err-design-in-None-clause-refused : goal.returns-in_err-design-in-None-clause-refused
@@ -38,12 +38,12 @@ pub returns-clause-thin : goal.returns-clause-thin
 returns-clause-thin c =
     let laws = reads_by c.expr_by_operands.ensures.signal c.expr_by_operands.ensures.inverted c.expr_by_operands.ensures.and c.expr_by_operands.ensures.xor c.expr_by_operands.ensures.or in
     subst (IsThin c.args.source.now) (sym c.in_ok-design-in-None.ensures)
-    (stands laws c.one_token.ensures.some c.args.source.now c.args.sentence.now c.deref.result.now c.in_ok-judged.judged.fault c.in_ok-judged.judged.names.signals c.in_ok-judged.judged.names.clocks c.requires.short c.requires.read c.deref.ensures.value
+    (stands laws c.one_token.ensures.some c.names_are_identifiers.ensures.plain c.args.source.now c.args.sentence.now c.deref.result.now c.in_ok-judged.judged.fault c.in_ok-judged.judged.names.signals c.in_ok-judged.judged.names.clocks c.requires.short c.requires.read c.deref.ensures.value
     c.in_ok-judged.ensures.fault c.in_ok-judged.ensures.signals c.in_ok-judged.ensures.clocks (sym c.sooner.ensures ∙ c.in-None.is)).thin
 
 pub returns-clause-plain : goal.returns-clause-plain
 returns-clause-plain c =
     let laws = reads_by c.expr_by_operands.ensures.signal c.expr_by_operands.ensures.inverted c.expr_by_operands.ensures.and c.expr_by_operands.ensures.xor c.expr_by_operands.ensures.or in
     subst HasPlainNames (sym c.in_ok-design-in-None.ensures)
-    (stands laws c.one_token.ensures.some c.args.source.now c.args.sentence.now c.deref.result.now c.in_ok-judged.judged.fault c.in_ok-judged.judged.names.signals c.in_ok-judged.judged.names.clocks c.requires.short c.requires.read c.deref.ensures.value
+    (stands laws c.one_token.ensures.some c.names_are_identifiers.ensures.plain c.args.source.now c.args.sentence.now c.deref.result.now c.in_ok-judged.judged.fault c.in_ok-judged.judged.names.signals c.in_ok-judged.judged.names.clocks c.requires.short c.requires.read c.deref.ensures.value
     c.in_ok-judged.ensures.fault c.in_ok-judged.ensures.signals c.in_ok-judged.ensures.clocks (sym c.sooner.ensures ∙ c.in-None.is)).plain
