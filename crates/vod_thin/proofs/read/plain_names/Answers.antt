@@ -25,5 +25,5 @@ pub returns : goal.returns
 returns c = λ source d short thin.
     let laws = reads_by c.expr_by_operands.ensures.signal c.expr_by_operands.ensures.inverted c.expr_by_operands.ensures.and c.expr_by_operands.ensures.xor c.expr_by_operands.ensures.or in
     let none : faults (printed thin.tree) ≡ [] = no_places (faults (printed thin.tree)) (none_later (limit_of source thin.tokens) (least (faults (printed thin.tree))) thin.faultless) in
-    let it = made laws c.one_token.ensures.some source thin.tokens thin.tree _ _ short thin.reads none refl refl in
+    let it = made laws c.one_token.ensures.some source thin.tokens thin.tree _ _ short thin.reads (c.names_are_identifiers.ensures.plain source thin.tokens thin.tree thin.reads) none refl refl in
     subst HasPlainNames (it.is ∙ sym thin.design) it.plain
