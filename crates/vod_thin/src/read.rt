@@ -64,6 +64,7 @@ pub fn plain_names()
 {
     expr_by_operands();
     one_token();
+    names_are_identifiers();
 }
 
 fn read(alloc: Global, source: &[u8], more: bool) -> Result<Design, ThinFault>
