@@ -61,10 +61,11 @@ good_item m earlier (Assign target value) e =
 good_item m earlier (Always clock register value) e =
     let reads : List ℕ = places_where (is_unreadable m earlier) (names_in value) in
     let first : List ℕ = place_if (is_wrong_clock m earlier clock) clock ++ [] in
-    let second : List ℕ = place_if (is_wrong_register m earlier register) register ++ [] in
-    ( one_place (is_wrong_clock m earlier clock) clock (none_left first (second ++ reads) e)
-    , one_place (is_wrong_register m earlier register) register (none_left second reads (none_right first (second ++ reads) e))
-    , no_places (is_unreadable m earlier) (names_in value) (none_right second reads (none_right first (second ++ reads) e)))
+    let second : List ℕ = place_if (is_wrong_register m earlier register) register ++ [] in (
+      one_place (is_wrong_clock m earlier clock) clock (none_left first (second ++ reads) e),
+      one_place (is_wrong_register m earlier register) register (none_left second reads (none_right first (second ++ reads) e)),
+      no_places (is_unreadable m earlier) (names_in value) (none_right second reads (none_right first (second ++ reads) e)),
+    )
 
 -- items, each behind those before it
 abbrev pub AllGood : Module (List Mark) → List (Item (List Mark)) → List (Item (List Mark)) → Type 0
@@ -91,9 +92,10 @@ fresh_ports : (m : Module (List Mark)) (earlier ports : List Port) → each_afte
 fresh_ports m earlier [] e = tt
 fresh_ports m earlier (port ∷ ports) e =
     let rest : List ℕ = each_after (port_faults m) (earlier ++ port ∷ []) ports in
-    let own : Declared = declared_port port in
-    ( one_place (is_wrong_signal m (map declared_port earlier) own) port.name (none_left (port_faults m earlier port) rest e)
-    , subst (λ b. Fresh m b (map declared_port ports)) (map_push declared_port earlier port) (fresh_ports m (earlier ++ port ∷ []) ports (none_right (port_faults m earlier port) rest e)))
+    let own : Declared = declared_port port in (
+      one_place (is_wrong_signal m (map declared_port earlier) own) port.name (none_left (port_faults m earlier port) rest e),
+      subst (λ b. Fresh m b (map declared_port ports)) (map_push declared_port earlier port) (fresh_ports m (earlier ++ port ∷ []) ports (none_right (port_faults m earlier port) rest e)),
+    )
 
 fresh_items : (m : Module (List Mark)) (earlier items : List (Item (List Mark))) → AllGood m earlier items → Fresh m (declared m.ports earlier) (flat_map declared_by items)
 fresh_items m earlier [] h = tt

@@ -115,9 +115,9 @@ pub pairs_more : (m : Module (List Mark)) (names : List Name) (name : Name) (k :
     → AllPairs (λ s t. s ≢ t) (numbers m names) → AllPairs (λ s t. s ≢ t) (numbers m (names ++ name ∷ []))
 pairs_more m names name k e lacks pairs =
     subst (AllPairs (λ s t. s ≢ t)) (sym (map_push (number m) names name)) (all_pairs_push (λ s t. s ≢ t) (numbers m names) (number m name) pairs (λ i d lt same.
-        let test : nat_eq (get_or (numbers m names) i d) (number m name) ≡ true = grind (arith, nat_tests) in
-        let there : has (numbers m names) (number m name) ≡ true = list_any_at (λ n. nat_eq n (number m name)) (numbers m names) i d lt test in
-        let had = has_numbers m names name k e in cc))
+    let test : nat_eq (get_or (numbers m names) i d) (number m name) ≡ true = grind (arith, nat_tests) in
+    let there : has (numbers m names) (number m name) ≡ true = list_any_at (λ n. nat_eq n (number m name)) (numbers m names) i d lt test in
+    let had = has_numbers m names name k e in cc))
 
 -- the test of the signal with a number
 pub test_there : (p : List ℕ × Kind → Bool) (ds : List Declared) (i : ℕ) (d : Declared) → slice_get ds i ≡ Some d → slice_index_or (map p (entries ds)) i false ≡ p (d.name.bytes, d.kind)

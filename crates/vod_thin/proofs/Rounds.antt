@@ -18,12 +18,13 @@ pub port_round : (source : List ℕ) (t u : Tables) (ports : List code_port.Port
 port_round source t u ports i d first next lt e g =
     let x : Port = port_of source (get_or ports i d) in
     let rest : List Port = map (port_of source) (drop (i + 1) ports) in
-    let left : map (port_of source) (drop i ports) ≡ x ∷ rest = ap (map (port_of source)) (drop_more ports i d lt) in
-    ( ap (λ o. sooner o (least (all_port_places u rest))) g
-      ∙ ap (λ (v : Tables). sooner (sooner first (least (port_places t x))) (least (all_port_places v rest))) e
-      ∙ sym (least_more first (port_places t x) (all_port_places (with_port t x) rest))
-      ∙ ap (λ (ys : List Port). sooner first (least (all_port_places t ys))) (sym left)
-    , ap (λ (v : Tables). with_ports v rest) e ∙ ap (with_ports t) (sym left))
+    let left : map (port_of source) (drop i ports) ≡ x ∷ rest = ap (map (port_of source)) (drop_more ports i d lt) in (
+      ap (λ o. sooner o (least (all_port_places u rest))) g
+          ∙ ap (λ (v : Tables). sooner (sooner first (least (port_places t x))) (least (all_port_places v rest))) e
+          ∙ sym (least_more first (port_places t x) (all_port_places (with_port t x) rest))
+          ∙ ap (λ (ys : List Port). sooner first (least (all_port_places t ys))) (sym left),
+      ap (λ (v : Tables). with_ports v rest) e ∙ ap (with_ports t) (sym left),
+    )
 
 pub item_round : (source : List ℕ) (ts : List Token) (t u : Tables) (items : List code_item.Item) (i : ℕ) (d : code_item.Item) (first next : Option ℕ) → i < length items
     → u ≡ with_item t (item_of source ts (get_or items i d)) → next ≡ sooner first (least (item_places t (item_of source ts (get_or items i d))))
@@ -32,9 +33,10 @@ pub item_round : (source : List ℕ) (ts : List Token) (t u : Tables) (items : L
 item_round source ts t u items i d first next lt e g =
     let x : Item (List Mark) = item_of source ts (get_or items i d) in
     let rest : List (Item (List Mark)) = map (item_of source ts) (drop (i + 1) items) in
-    let left : map (item_of source ts) (drop i items) ≡ x ∷ rest = ap (map (item_of source ts)) (drop_more items i d lt) in
-    ( ap (λ o. sooner o (least (all_item_places u rest))) g
-      ∙ ap (λ (v : Tables). sooner (sooner first (least (item_places t x))) (least (all_item_places v rest))) e
-      ∙ sym (least_more first (item_places t x) (all_item_places (with_item t x) rest))
-      ∙ ap (λ (ys : List (Item (List Mark))). sooner first (least (all_item_places t ys))) (sym left)
-    , ap (λ (v : Tables). with_items v rest) e ∙ ap (with_items t) (sym left))
+    let left : map (item_of source ts) (drop i items) ≡ x ∷ rest = ap (map (item_of source ts)) (drop_more items i d lt) in (
+      ap (λ o. sooner o (least (all_item_places u rest))) g
+          ∙ ap (λ (v : Tables). sooner (sooner first (least (item_places t x))) (least (all_item_places v rest))) e
+          ∙ sym (least_more first (item_places t x) (all_item_places (with_item t x) rest))
+          ∙ ap (λ (ys : List (Item (List Mark))). sooner first (least (all_item_places t ys))) (sym left),
+      ap (λ (v : Tables). with_items v rest) e ∙ ap (with_items t) (sym left),
+    )

@@ -200,8 +200,8 @@ accepted m value kept right few = record {
   block_reads = λ k d lt. (blocks_right m value [] m.items refl kept.good right k d lt).read;
   assigns_registers = subst (All (λ s. IsTrue (netlist.is_register (net m value) s))) (sym (registers_are m value m.items))
       (All-map (λ s. IsTrue (netlist.is_register (net m value) s)) (number m) (updated m.items) (λ k d lt.
-          let of = all_updated m [] m.items refl kept.good k d lt in
-          at_register m value (number m (get_or (updated m.items) k d)) ∙ named_test m value registers_test (get_or (updated m.items) k d) of.k of.found ∙ of.passes));
+      let of = all_updated m [] m.items refl kept.good k d lt in
+      at_register m value (number m (get_or (updated m.items) k d)) ∙ named_test m value registers_test (get_or (updated m.items) k d) of.k of.found ∙ of.passes));
   assigned_once = subst (AllPairs (λ s t. s ≢ t)) (sym (registers_are m value m.items)) (once_updated m [] m.items refl kept.good none);
   initials_rise = subst IsStrictlyIncreasing (sym (initials_are 0 (table m))) (where_rise registers_test 0 (table m));
   initial = λ s. at_register m value s ∙ sym (has_initial m value s);

@@ -250,7 +250,9 @@ impl<'s> Judge<'s> {
             }
             Item::Assign { target, .. } => self.driven.add(text.bytes(*target)),
             Item::Always {
-                clock, register, ..
+                clock,
+                register,
+                ..
             } => self.add_always(text.bytes(*clock), text.bytes(*register)),
         }
     }

@@ -57,12 +57,7 @@ fn binds(frame: &Frame, level: u8) -> bool
 }
 
 // An operator between its operands.
-fn combined(
-    alloc: Global,
-    operator: Operator,
-    left: Expr,
-    right: Expr,
-) -> Result<Expr, AllocError>
+fn combined(alloc: Global, operator: Operator, left: Expr, right: Expr) -> Result<Expr, AllocError>
     ensures { IfOk result (λ e. e ≡ combined operator left right) }
 {
     let left = Boxed::new(alloc, left)?;

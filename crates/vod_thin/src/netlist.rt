@@ -14,9 +14,7 @@ use crate::machine::Machine;
 use crate::names::{Kind, Names, Signals};
 use crate::text::Text;
 use std::alloc::{AllocError, Global};
-use vod_design::thin::{
-    Bit, Block, Class, Driver, Expr, Initial, Input, Name, Parts, Signal,
-};
+use vod_design::thin::{Bit, Block, Class, Driver, Expr, Initial, Input, Name, Parts, Signal};
 use vod_thin_syntax::{Item, Module, Span, word_of};
 use vod_token::Token;
 
@@ -233,10 +231,7 @@ impl<'a, 's> Builder<'a, 's> {
         requires few { length self.now.signals.now ≤ 2 ^ 25 }
         ensures { IfOk result (λ parts. netlist_of parts ≡ design_by self.now.signals.now self.now.clocks.now (read_expr self.now.signals.now) (module_of self.now.text.source.now self.now.text.tokens.now parsed.now)) }
     {
-        let name = Name::new(Vec::from_slice(
-            self.alloc,
-            self.text.bytes(parsed.name),
-        )?);
+        let name = Name::new(Vec::from_slice(self.alloc, self.text.bytes(parsed.name))?);
         Ok(Parts {
             name,
             signals: self.signals()?,

@@ -82,11 +82,7 @@ fn read(alloc: Global, source: &[u8], more: bool) -> Result<Design, ThinFault>
 }
 
 // The design of a sentence, or its first fault.
-fn sentence_design(
-    alloc: Global,
-    source: &[u8],
-    sentence: &Sentence,
-) -> Result<Design, ThinFault>
+fn sentence_design(alloc: Global, source: &[u8], sentence: &Sentence) -> Result<Design, ThinFault>
     requires short { length source.now ≤ 2 ^ 20 }
     requires read { IsRead source.now sentence.now }
     ensures thin { IfOk result (λ d. IsThin source.now d) }

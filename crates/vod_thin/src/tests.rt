@@ -44,7 +44,11 @@ fn splits(
 fn declarations_are_refused(rt: HostRuntime) -> Result<(), Fail> {
     let rows: [(&[u8], &[u8], &[u8]); 9] = [
         // A name that is declared before.
-        (b"module g (input a, input ", b"a); endmodule", b"b); endmodule"),
+        (
+            b"module g (input a, input ",
+            b"a); endmodule",
+            b"b); endmodule",
+        ),
         (
             b"module g (input a); reg ",
             b"a = 0; endmodule",
@@ -210,8 +214,8 @@ fn bit(digit: u8) -> Bit {
 }
 
 // The digit of a number's place.
-fn at(number: u8, place: u8) -> Bit {
-    if place < 8 && (number >> place) % 2 == 1 {
+fn at(number: usize, place: u32) -> Bit {
+    if place < 64 && (number >> place) % 2 == 1 {
         Bit::One
     } else {
         Bit::Zero
@@ -220,13 +224,11 @@ fn at(number: u8, place: u8) -> Bit {
 
 // Whether an expression has these values where signals 0 to 3 are the digits of 0 to 15.
 fn has_values(value: &Expr, table: &[u8; 16]) -> bool {
-    let mut number = 0;
-    for digit in table {
+    for (number, digit) in table.iter().enumerate() {
         let bits = [at(number, 3), at(number, 2), at(number, 1), at(number, 0)];
         if value.value(bits.as_slice()) != bit(*digit) {
             return false;
         }
-        number = (number + 1) % 16;
     }
     true
 }
@@ -351,8 +353,10 @@ fn reads_flop(alloc: Global, source: &[u8], value: Bit) -> Result<bool, AllocErr
 
 #[test]
 fn designs(rt: HostRuntime) -> Result<(), Fail> {
-    let zero = b"module f (input clk, input d, output q); reg r = 0; always @(posedge clk) r <= d; assign q = r; endmodule";
-    let one = b"module f (input clk, input d, output q);\n  reg r = 1;\n  always @(posedge clk)\n    r <= (d);\n  assign q = r;\nendmodule\n";
+    let zero =
+        b"module f (input clk, input d, output q); reg r = 0; always @(posedge clk) r <= d; assign q = r; endmodule";
+    let one =
+        b"module f (input clk, input d, output q);\n  reg r = 1;\n  always @(posedge clk)\n    r <= (d);\n  assign q = r;\nendmodule\n";
     assert!(rt; reads_flop(rt.alloc(), zero.as_slice(), Bit::Zero)?);
     assert!(rt; reads_flop(rt.alloc(), one.as_slice(), Bit::One)?);
     assert!(rt; !reads_flop(rt.alloc(), one.as_slice(), Bit::Zero)?);
