@@ -12,4 +12,4 @@ mod tests;
 mod text;
 
 pub use fault::ThinFault;
-pub use read::{one_design, one_place, plain_names, read_thin};
+pub use read::{few_inputs, one_design, one_place, plain_names, read_thin};

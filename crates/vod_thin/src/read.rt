@@ -15,7 +15,9 @@ use crate::netlist::Builder;
 use crate::text::Text;
 use std::alloc::{AllocError, Global};
 use vod_design::thin::{Design, expr_by_operands};
-use vod_thin_syntax::{Module, Sentence, names_are_identifiers, one_sentence, read_sentence};
+use vod_thin_syntax::{
+    Module, Sentence, inputs_are_few, names_are_identifiers, one_sentence, read_sentence,
+};
 use vod_token::one_token;
 
 /// The design of a source of the thin form, or the least place where it isn't of it. The source has at most 1,048,576
@@ -65,6 +67,13 @@ pub fn plain_names()
     expr_by_operands();
     one_token();
     names_are_identifiers();
+}
+
+/// A design that was read has at most 256 inputs.
+pub fn few_inputs()
+    ensures { (source : List ℕ) (d : Netlist) → IsThin source d → length d.inputs ≤ 256 }
+{
+    inputs_are_few();
 }
 
 fn read(alloc: Global, source: &[u8], more: bool) -> Result<Design, ThinFault>

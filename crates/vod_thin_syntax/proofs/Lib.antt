@@ -12,3 +12,4 @@ mod TokenLaws
 mod Trees
 mod Values
 mod WordLaws
+mod InputLaws

@@ -1,9 +1,11 @@
 -- The names of a module, and what they are.
-use Rattle.std.specs.Prelude.{◌≡◌, ◌≤◌, false, List, [], ◌∷◌, ◌++◌, length, map}
+use Rattle.std.specs.Prelude.{◌≡◌, ◌≤◌, Bool, true, false, List, [], ◌∷◌, ◌++◌, length, map, filter}
 use Rattle.std.specs.List.{flat_map}
 use Rattle.vod_token.specs.Form.{IsWord}
 use Rattle.vod_token.specs.Word.{is_reserved}
-use Rattle.vod_thin_syntax.specs.Syntax.{Name, Value, Plain, Group, Joined, Item, Wire, Register, Assign, Always, Module}
+use Rattle.vod_thin_syntax.specs.declared.syntax.Direction.{Direction}
+use Rattle.vod_thin_syntax.specs.declared.syntax.Direction.TheVariants as direction
+use Rattle.vod_thin_syntax.specs.Syntax.{Name, Value, Plain, Group, Joined, Item, Wire, Register, Assign, Always, Port, Module}
 
 -- the names of a value, from the left
 abbrev pub value_names : Value → List Name
@@ -29,3 +31,11 @@ pub record IsIdentifier (name : Name) : Type 0 where
 -- it is within the limit on names
 abbrev pub IsShort : Name → Type 0
 IsShort name = length name.bytes ≤ 1024
+
+-- the ports that are inputs
+abbrev pub is_input : Direction → Bool
+is_input direction.Input = true
+is_input direction.Output = false
+
+abbrev pub input_ports : List Port → List Port
+input_ports ports = filter (λ port. is_input port.direction) ports

@@ -15,7 +15,7 @@ mod tokens;
 mod words;
 
 pub use fault::SyntaxFault;
-pub use names::names_are_identifiers;
+pub use names::{inputs_are_few, names_are_identifiers};
 pub use read::{one_sentence, read_sentence};
 pub use syntax::{Direction, Item, Module, Port, Sentence, Span};
 pub use tokens::one_cut;

@@ -1,8 +1,8 @@
 //! What the names of a sentence are.
-ghost use Rattle.std.specs.Prelude.{◌≡◌, ℕ, List, None, All};
+ghost use Rattle.std.specs.Prelude.{◌≡◌, ◌≤◌, ℕ, List, None, All, length};
 ghost use Rattle.vod_token.specs.declared.Token.{Token};
 ghost use Rattle.vod_thin_syntax.specs.Limit.{limit_of};
-ghost use Rattle.vod_thin_syntax.specs.Names.{names_of, IsIdentifier, IsShort};
+ghost use Rattle.vod_thin_syntax.specs.Names.{names_of, input_ports, IsIdentifier, IsShort};
 ghost use Rattle.vod_thin_syntax.specs.Refusal.{Reads};
 ghost use Rattle.vod_thin_syntax.specs.Syntax as tree;
 ghost use Rattle.vod_thin_syntax.specs.Syntax.{Value};
@@ -13,4 +13,10 @@ pub fn names_are_identifiers()
         Reads source ts m → All IsIdentifier (names_of m) }
     ensures short { (source : List ℕ) (ts : List Token) (m : tree.Module Value) →
         Reads source ts m → limit_of source ts ≡ None → All IsShort (names_of m) }
+{}
+
+/// A sentence has at most 256 inputs where no limit is passed.
+pub fn inputs_are_few()
+    ensures { (source : List ℕ) (ts : List Token) (m : tree.Module Value) →
+        Reads source ts m → limit_of source ts ≡ None → length (input_ports m.ports) ≤ 256 }
 {}
