@@ -1,20 +1,19 @@
 -- What the inputs hold, against what earlier vectors assigned.
-use Rattle.std.proofs.Common.{◌≡◌, ℕ, zero, suc, ◌+◌, ◌<◌, arith, List, [], ◌∷◌, ◌++◌, length, get_or, set, slice_get, refl, sym, ap, ◌∙◌, subst, true, false, not, ◌==◌, ◌&&◌, ◌||◌, Bool, IsTrue, inl, inr, All, replicate, append_assoc, append-nil, length-set, get_or-set_same, get_or-set_other, cond, if◌then◌else◌}
+use Rattle.std.proofs.Common.{◌≡◌, ℕ, zero, suc, ◌+◌, ◌<◌, arith, List, [], ◌∷◌, ◌++◌, length, get_or, set, slice_get, refl, sym, ap, ◌∙◌, subst, true, false, not, ◌==◌, ◌&&◌, ◌||◌, Bool, IsTrue, inl, inr, All, append_assoc, append-nil, length-set, get_or-set_same, get_or-set_other, cond, if◌then◌else◌}
 use Rattle.std.proofs.lemmas.Bool.{cases_eq, ne_eqb}
 use Rattle.std.proofs.lemmas.Bool.Decides.{Decides-eqb}
-use Rattle.std.proofs.lemmas.List.{get_or-replicate, length-replicate}
 use Rattle.std.proofs.lemmas.List.Elements.{All-head, All-tail}
-use Rattle.std.specs.List.{list_all, enumerate_from, zip}
+use Rattle.std.specs.List.{list_all, enumerate_from}
 use Rattle.vod_design.specs.declared.thin.Bit.{Bit}
 use Rattle.vod_design.specs.declared.thin.Bit.TheVariants as bit
 use Rattle.vod_design.specs.declared.thin.Class.{Class}
 use Rattle.vod_design.specs.declared.thin.Input.{Input}
 use Rattle.vod_design.specs.declared.thin.Move.{Move}
 use Rattle.vod_design.specs.Bits.{same_bit, is_known}
-use Rattle.vod_design.specs.Netlist.{Netlist, has, is_clock}
-use Rattle.vod_design.specs.Vectors.{assigned, holds, changes, has_class, gives_data}
-use Rattle.vod_thin_script.specs.Held.{value_from, AreValues, written, leaves, same_class, is_of, change_only, suits}
-use Rattle.vod_thin_script.specs.Reading.{IsMove, AreLastTimes}
+use Rattle.vod_design.specs.Netlist.{Netlist}
+use Rattle.vod_design.specs.Vectors.{holds, changes, has_class}
+use Rattle.vod_thin_script.specs.Held.{value_from, AreValues, written, leaves, same_class, is_of, change_only}
+use Rattle.vod_thin_script.specs.Reading.{IsMove}
 
 -- what an assignment leaves as it is, by the value that earlier ones left
 holds-is : (moves : List Move) (otherwise : Bool) (b : Bit) (m : Move) → otherwise ≡ same_bit b m.value → holds otherwise moves m ≡ same_bit (value_from b moves m.input) m.value
@@ -76,31 +75,6 @@ one_class d class before values (m ∷ moves) v size are =
     by_test true false o r e f g = cc
     by_test false true o r e f g = cc
 
--- which inputs the first vector has to assign, by their last times
-pub opens : (moves : List Move) (inputs : List Input) (times : List ℕ) (time n : ℕ) → length times ≡ length inputs
-    → ((i : ℕ) → i < length times → (get_or times i 0 == time) ≡ has (assigned moves) (n + i))
-    → list_all (λ e. suits e.0 (e.1 == time)) (zip inputs times) ≡ list_all (λ e. if is_clock e.1.class then not (has (assigned moves) e.0) else has (assigned moves) e.0) (enumerate_from n inputs)
-opens moves [] [] time n size h = refl
-opens moves [] (t ∷ times) time n size h = absurd (omega (arith, size))
-opens moves (x ∷ inputs) [] time n size h = absurd (omega (arith, size))
-opens moves (x ∷ inputs) (t ∷ times) time n size h =
-    let here : (t == time) ≡ has (assigned moves) n = h 0 (omega arith) ∙ ap (has (assigned moves)) (omega arith) in
-    let rest = opens moves inputs times time (n + 1) (omega (arith, size)) (λ i lt. h (suc i) (omega arith) ∙ ap (has (assigned moves)) (omega arith)) in
-    ap (λ b. suits x b && list_all (λ e. suits e.0 (e.1 == time)) (zip inputs times)) here ∙ ap (λ r. suits x (has (assigned moves) n) && r) rest
-
-same_truth : (a b : Bool) → (IsTrue a → IsTrue b) → (IsTrue b → IsTrue a) → a ≡ b
-same_truth true true f g = refl
-same_truth true false f g = sym (f refl)
-same_truth false true f g = g refl
-same_truth false false f g = refl
-
--- whether some assignments may be those of the first vector
-pub opens_at : (d : Netlist) (time : ℕ) (moves : List Move) (times : List ℕ) → length times ≡ length d.inputs → AreLastTimes time moves times
-    → list_all (λ e. suits e.0 (e.1 == time)) (zip d.inputs times) ≡ gives_data d moves
-opens_at d time moves times size h =
-    opens moves d.inputs times time 0 size (λ i lt. same_truth (get_or times i 0 == time) (has (assigned moves) i)
-    (λ t. (h.now i lt).0 ((Decides-eqb (get_or times i 0) time).0 t)) (λ t. (Decides-eqb (get_or times i 0) time).1 ((h.now i lt).1 t)) ∙ ap (has (assigned moves)) (omega arith))
-
 -- one more assignment
 value_from-push : (moves : List Move) (b : Bit) (m : Move) (i : ℕ) → value_from b (moves ++ m ∷ []) i ≡ (if m.input == i then m.value else value_from b moves i)
 value_from-push [] b m i = refl
@@ -124,7 +98,3 @@ pub values_written : (before moves : List Move) (values : List Bit) → AreValue
 values_written before [] values v = subst (λ ms. AreValues ms values) (sym (append-nil before)) v
 values_written before (m ∷ moves) values v =
     subst (λ ms. AreValues ms (written (set values m.input m.value) moves)) (append_assoc before (m ∷ []) moves) (values_written (before ++ m ∷ []) moves (set values m.input m.value) (values_push before values m v))
-
--- before any assignment all inputs are z
-pub values_none : (n : ℕ) → AreValues [] (replicate n bit.Z)
-values_none n = record { left = λ i lt. (let size = length-replicate n bit.Z in get_or-replicate n i bit.Z bit.X (omega arith)) }

@@ -9,6 +9,7 @@ use Rattle.std.specs.List.Sorted.{IsStrictlyIncreasing}
 use Rattle.vod_design.specs.declared.thin.Move.{Move}
 use Rattle.vod_design.specs.declared.thin.Vector.{Vector}
 use Rattle.vod_design.specs.Netlist.{Netlist}
+use Rattle.vod_thin_script.specs.Held.{given}
 use Rattle.vod_design.specs.Vectors.{IsVector, IsLawful, AreUnmixed, is_unmixed, times, has_data, gives_data, last_time, last_time_after}
 
 -- the last time stands last
@@ -31,11 +32,6 @@ times-append vs ws = map-append (λ (v : Vector). v.time) vs ws
 
 times-length : (vs : List Vector) → length (times vs) ≡ length vs
 times-length vs = length-map vs _
-
--- all that some vectors assign, behind some assignments
-abbrev pub given : List Move → List Vector → List Move
-given before [] = before
-given before (v ∷ vs) = given (before ++ v.moves) vs
 
 pub given-push : (before : List Move) (vs : List Vector) (v : Vector) → given before (vs ++ v ∷ []) ≡ given before vs ++ v.moves
 given-push before [] v = refl

@@ -1,9 +1,10 @@
 pub mod Cuts
+pub mod Following
 pub mod Names
 pub mod Lawful
 pub mod HeldLaws
 pub mod Lines
 pub mod Once
+pub mod Order
 pub mod Progress
 pub mod Refusals
-pub mod Times

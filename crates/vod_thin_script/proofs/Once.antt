@@ -1,28 +1,27 @@
 -- A script has one list of vectors: names, assignments, lines and their lists have one reading each.
-use Rattle.std.proofs.Common.{lit≤, length-append, ◌≡◌, ◌≢◌, ℕ, ◌<◌, ◌≤◌, arith, List, [], ◌∷◌, ◌++◌, length, get_or, refl, sym, ap, ◌∙◌, subst, true, false, not, ◌==◌, ◌&&◌, ◌||◌, Bool, IsTrue, inl, inr, append_assoc, append-nil}
+use Rattle.std.proofs.Common.{lit≤, ◌≡◌, ◌≢◌, ℕ, ◌<◌, ◌≤◌, arith, List, [], ◌∷◌, ◌++◌, length, get_or, refl, sym, ap, ◌∙◌, subst, true, false, not, ◌==◌, ◌&&◌, ◌||◌, Bool, IsTrue, inl, inr, append_assoc, append-nil}
 use Rattle.std.proofs.lemmas.Bool.{cases_order, cases_lt}
-use Rattle.std.proofs.lemmas.List.{get_or_past, length-map, get_or-map, map-append, get_or_default}
-use Rattle.std.proofs.Math.ListN.{get_or-append}
-use Rattle.std.proofs.Math.Seq.{get_or-append_seam}
+use Rattle.std.proofs.lemmas.List.{get_or_past, length-map, get_or-map}
 use Rattle.std.proofs.lemmas.List.Concat.{flat_map-append}
-use Rattle.std.proofs.lemmas.List.Folds.{Any-from_list_any}
-use Rattle.std.proofs.lemmas.Bool.Decides.{Decides-eqb}
-use Rattle.std.proofs.lemmas.List.Elements.{All-head, All-tail, All-push, Contains-get_or}
+use Rattle.std.proofs.lemmas.List.Elements.{All-head, All-tail, Contains-get_or}
+use Rattle.std.proofs.lemmas.List.Sorted.{IsPermutation-sym, IsPermutation-trans, All-permutation}
 use Rattle.std.specs.List.{flat_map, All, AllPairs, Contains}
+use Rattle.std.specs.List.Sorted.{IsPermutation}
 use Rattle.std.specs.Str.Parse.{AllDigits, digits_value}
 use Rattle.std.specs.Char.{digit_value}
 use Rattle.vod_design.specs.declared.thin.Bit.{Bit}
 use Rattle.vod_design.specs.declared.thin.Bit.TheVariants as bit
 use Rattle.vod_design.specs.declared.thin.Move.{Move}
 use Rattle.vod_design.specs.declared.thin.Vector.{Vector}
-use Rattle.vod_design.specs.Netlist.{Netlist, has}
+use Rattle.vod_design.specs.Netlist.{Netlist}
 use Rattle.vod_design.specs.Vectors.{IsVector, assigned}
 use Rattle.vod_design.specs.Names.{input_names, is_plain, HasPlainNames}
 use Rattle.vod_thin_script.specs.Pieces.{Lacks, StopsAt}
 use Rattle.vod_thin_script.specs.Script.{IsLine, AreLines, IsScript, digit_of, assignment_text}
-use Rattle.vod_thin_script.specs.Reading.{IsMove, AreMoves, Assigns, IsValue}
+use Rattle.vod_thin_script.specs.Reading.{IsMove, Assigns, IsValue}
 use Rattle.vod_thin_script.proofs.Cuts.{cut_once, Lacks-append}
 use Rattle.vod_thin_script.proofs.Names.{names_size}
+use Rattle.vod_thin_script.proofs.Order.{rising_once}
 
 -- different elements that are equal have one place
 pub place_once : (names : List (List ℕ)) → AllPairs (λ a b. a ≢ b) names → (i j : ℕ) (d : List ℕ) → i < length names → j < length names → get_or names i d ≡ get_or names j d → i ≡ j
@@ -80,10 +79,6 @@ plain_bytes (c ∷ cs) p =
     let byte = plain_byte c both.0 in
     let rest = plain_bytes cs both.1 in
     ((byte.0, rest.0), (byte.1, rest.1), (byte.2, rest.2))
-
--- the name of an input
-name_of : Netlist → ℕ → List ℕ
-name_of d i = get_or (input_names d) i []
 
 plain_names : (names : List (List ℕ)) → All (λ name. IsTrue (is_plain name)) names → (i : ℕ) → IsTrue (is_plain (get_or names i []))
 plain_names names plain i =
@@ -161,12 +156,17 @@ vector_moves d v form = λ k e lt. record { input = input k e lt; known = form.k
         let same : get_or (assigned v.moves) k 0 ≡ (get_or v.moves k e).input = get_or-map (λ (m : Move). m.input) v.moves k e 0 lt in
         subst (λ i. i < length d.inputs) same (form.inputs k 0 among)
 
+-- and those of its line
+pub line_moves : (d : Netlist) (line : List ℕ) (v : Vector) (l : IsLine d line v) → IsVector d v → All (IsMove d) l.moves
+line_moves d line v l form = All-permutation (IsMove d) v.moves l.moves (IsPermutation-sym l.moves v.moves l.order) (vector_moves d v form)
+
 -- no text but the empty one is of no assignment
 pub moves_text-nil : (d : Netlist) (moves : List Move) → moves_text d moves ≡ [] → moves ≡ []
 moves_text-nil d [] e = refl
 moves_text-nil d (m ∷ moves) e = cc
 
-same_moves : (d : Netlist) → HasPlainNames d → (ms ns : List Move) → All (IsMove d) ms → All (IsMove d) ns → moves_text d ms ≡ moves_text d ns → ms ≡ ns
+-- a text is of one list of assignments
+pub same_moves : (d : Netlist) → HasPlainNames d → (ms ns : List Move) → All (IsMove d) ms → All (IsMove d) ns → moves_text d ms ≡ moves_text d ns → ms ≡ ns
 same_moves d h ms ns gm gn e =
     let texts : moves_text d ms ≡ moves_text d ns ++ [] = e ∙ sym (append-nil (moves_text d ns)) in
     let front = moves_front d h ns ms [] gn gm texts in
@@ -181,16 +181,18 @@ same_vector v w t m = same_fields v.time w.time v.moves w.moves t m
 
 -- what a line is cut into at its first space
 pub line_parts : (d : Netlist) (line : List ℕ) (v : Vector) → (l : IsLine d line v) → (time rest : List ℕ) → Lacks 32 time → StopsAt 32 rest → line ≡ time ++ rest
-    → (l.time ≡ time) × (moves_text d v.moves ≡ rest)
+    → (l.time ≡ time) × (moves_text d l.moves ≡ rest)
 line_parts d line v l time rest lacks stops e =
-    cut_once 32 l.time time (moves_text d v.moves) rest (digits_lack 32 (lit≤ tt) l.time l.decimal.0.1) lacks (moves_text-spaced d v.moves) stops (sym l.text ∙ e)
+    cut_once 32 l.time time (moves_text d l.moves) rest (digits_lack 32 (lit≤ tt) l.time l.decimal.0.1) lacks (moves_text-spaced d l.moves) stops (sym l.text ∙ e)
 
 -- a line is of one vector
 pub line_once : (d : Netlist) → HasPlainNames d → (line : List ℕ) (v w : Vector) → IsVector d v → IsVector d w → IsLine d line v → IsLine d line w → v ≡ w
 line_once d h line v w fv fw lv lw =
-    let parts = line_parts d line v lv lw.time (moves_text d w.moves) (digits_lack 32 (lit≤ tt) lw.time lw.decimal.0.1) (moves_text-spaced d w.moves) lw.text in
+    let parts = line_parts d line v lv lw.time (moves_text d lw.moves) (digits_lack 32 (lit≤ tt) lw.time lw.decimal.0.1) (moves_text-spaced d lw.moves) lw.text in
     let times : v.time ≡ w.time = sym lv.value ∙ ap (λ t. digits_value 10 t) parts.0 ∙ lw.value in
-    same_vector v w times (same_moves d h v.moves w.moves (vector_moves d v fv) (vector_moves d w fw) parts.1)
+    let there : lv.moves ≡ lw.moves = same_moves d h lv.moves lw.moves (line_moves d line v lv fv) (line_moves d line w lw fw) parts.1 in
+    let order : IsPermutation v.moves w.moves = IsPermutation-trans v.moves lw.moves w.moves (subst (λ ms. IsPermutation v.moves ms) there (IsPermutation-sym lv.moves v.moves lv.order)) lw.order in
+    same_vector v w times (rising_once v.moves w.moves order lv.rises lw.rises)
 
 moves_text-lacks : (d : Netlist) → HasPlainNames d → (moves : List Move) → Lacks 10 (moves_text d moves)
 moves_text-lacks d h [] = tt
@@ -202,7 +204,7 @@ moves_text-lacks d h (m ∷ moves) =
 -- no line has an LF in it
 pub line_lacks : (d : Netlist) → HasPlainNames d → (line : List ℕ) (v : Vector) → IsLine d line v → Lacks 10 line
 line_lacks d h line v l =
-    subst (Lacks 10) (sym l.text) (Lacks-append 10 l.time (moves_text d v.moves) (digits_lack 10 (lit≤ tt) l.time l.decimal.0.1) (moves_text-lacks d h v.moves))
+    subst (Lacks 10) (sym l.text) (Lacks-append 10 l.time (moves_text d l.moves) (digits_lack 10 (lit≤ tt) l.time l.decimal.0.1) (moves_text-lacks d h l.moves))
 
 -- the first line of a text is the one before its first LF
 pub lines_first : (d : Netlist) → HasPlainNames d → (line rest : List ℕ) → Lacks 10 line → (vs : List Vector) → AreLines d (line ++ 10 ∷ rest) vs
@@ -304,25 +306,6 @@ moves_text-push d done move piece rest a =
     let one : assignment_text d move ++ [] ≡ 32 ∷ piece = append-nil (assignment_text d move) ∙ sym a.spelled in
     let whole : moves_text d (done ++ move ∷ []) ≡ moves_text d done ++ 32 ∷ piece = more ∙ ap (λ text. moves_text d done ++ text) one in
     sym (ap (λ text. text ++ rest) whole ∙ append_assoc (moves_text d done) (32 ∷ piece) rest)
-
--- a number that stands before itself isn't there once
-twice : (xs ys : List ℕ) (x : ℕ) → AllPairs (λ i k. i ≢ k) (xs ++ x ∷ ys) → IsTrue (has xs x) → ⊥
-twice xs ys x once there =
-    let (k, y, lt, at, test) = Any-from_list_any (λ m. m == x) xs there in
-    let same : y ≡ x = (Decides-eqb y x).0 test in
-    let first : get_or (xs ++ x ∷ ys) k x ≡ x = get_or-append xs (x ∷ ys) x k lt ∙ get_or_default xs k x y lt ∙ at ∙ same in
-    let second : get_or (xs ++ x ∷ ys) (length xs) x ≡ x = get_or-append_seam xs x ys x in
-    let size = length-append xs (x ∷ ys) in
-    let within : length xs < length (xs ++ x ∷ ys) = omega arith in
-    once k (length xs) x lt within (first ∙ sym second)
-
--- where an input is assigned twice, no assignments are of the text
-pub no_moves_twice : (d : Netlist) → HasPlainNames d → (done : List Move) (move : Move) (rest : List ℕ) → All (IsMove d) done → IsMove d move → IsTrue (has (assigned done) move.input)
-    → (moves : List Move) → AreMoves d moves → moves_text d moves ≡ moves_text d (done ++ move ∷ []) ++ rest → ⊥
-no_moves_twice d h done move rest good allowed there moves all e =
-    let front = moves_front d h (done ++ move ∷ []) moves rest (All-push (IsMove d) done move good allowed) all.each e in
-    let parts : assigned moves ≡ assigned done ++ move.input ∷ assigned front.0 = ap assigned (front.1 ∙ append_assoc done (move ∷ []) front.0) ∙ map-append (λ (m : Move). m.input) done (move ∷ front.0) in
-    twice (assigned done) (assigned front.0) move.input (subst (AllPairs (λ i k. i ≢ k)) parts all.once) there
 
 -- a text whose tail is a space, a piece and a rest
 pub tail_parts : (text front tail behind piece rest : List ℕ) → text ≡ front ++ tail → tail ≡ 32 ∷ behind → behind ≡ piece ++ rest → text ≡ front ++ 32 ∷ (piece ++ rest)

@@ -5,6 +5,8 @@ use Rattle.vod_thin_script.specs.declared.ScriptFault.{ScriptFault}
 use Rattle.vod_thin_script.specs.declared.ScriptFault.TheVariants.{Refused, Memory}
 use Rattle.vod_thin_script.specs.declared.line.LineFault as line_fault
 use Rattle.vod_thin_script.specs.declared.line.LineFault.TheVariants as fault
+use Rattle.vod_thin_script.specs.declared.history.AddFault as add_fault
+use Rattle.vod_thin_script.specs.declared.history.AddFault.TheVariants as added
 use Rattle.vod_thin_script.specs.Script.{IsRefused, IsWrongLine}
 
 -- the script is refused there
@@ -21,3 +23,8 @@ IsLineFault d bytes Memory = ⊤
 abbrev pub fault_at : ℕ → line_fault.LineFault → ScriptFault
 fault_at line fault.Refused = Refused line
 fault_at line fault.Memory = Memory
+
+-- the fault of a line whose vector isn't added
+abbrev pub line_fault_of : add_fault.AddFault → line_fault.LineFault
+line_fault_of added.Refused = fault.Refused
+line_fault_of added.Memory = fault.Memory

@@ -1,5 +1,5 @@
 -- What inputs hold between the lines of a script.
-use Rattle.std.specs.Prelude.{◌≡◌, ℕ, ◌<◌, ◌==◌, ◌||◌, Bool, true, not, List, [], ◌∷◌, length, zip, Option, Some, None, slice_get, slice_set, if◌then◌else◌}
+use Rattle.std.specs.Prelude.{◌≡◌, ℕ, ◌-◌, ◌^◌, ◌<◌, ◌==◌, ◌||◌, ◌&&◌, Bool, true, not, nat_eq, nat_lt, nat_le, List, [], ◌∷◌, ◌++◌, length, zip, Option, Some, None, slice_get, slice_set, if◌then◌else◌}
 use Rattle.std.specs.List.{list_all, list_any}
 use Rattle.vod_design.specs.declared.thin.Bit.{Bit}
 use Rattle.vod_design.specs.declared.thin.Bit.TheVariants.{Z}
@@ -7,7 +7,8 @@ use Rattle.vod_design.specs.declared.thin.Class.{Class}
 use Rattle.vod_design.specs.declared.thin.Class.TheVariants.{Clock, Data}
 use Rattle.vod_design.specs.declared.thin.Input.{Input}
 use Rattle.vod_design.specs.declared.thin.Move.{Move}
-use Rattle.vod_design.specs.Bits.{same_bit, value_at}
+use Rattle.vod_design.specs.declared.thin.Vector.{Vector}
+use Rattle.vod_design.specs.Bits.{same_bit, is_known, value_at}
 use Rattle.vod_design.specs.Netlist.{is_clock}
 
 -- the value of an input behind some assignments, where it was this one before
@@ -50,7 +51,25 @@ are_unmixed inputs values moves = change_only inputs values Clock moves || chang
 abbrev pub suits : Input → Bool → Bool
 suits input assigned = if is_clock input.class then not assigned else assigned
 
--- whether the inputs whose last time is this one may be those of the first vector
-abbrev pub may_open : List Input → List ℕ → ℕ → Bool
-may_open inputs last_times time =
-    not (list_any (λ input. not (is_clock input.class)) inputs) || list_all (λ e. suits e.0 (e.1 == time)) (zip inputs last_times)
+-- whether the inputs whose value is known may be those of the first vector
+abbrev pub opens : List Input → List Bit → Bool
+opens inputs values = not (list_any (λ input. not (is_clock input.class)) inputs) || list_all (λ e. suits e.0 (is_known e.1)) (zip inputs values)
+
+-- whether a time may follow the last one
+abbrev pub comes_after : ℕ → ℕ → Bool
+comes_after last time = nat_lt last time && nat_le time (2 ^ 63 - 1)
+
+-- whether a vector in form may follow so many earlier ones
+abbrev pub may_follow : List Input → ℕ → ℕ → List Bit → Vector → Bool
+may_follow inputs earlier last values v =
+    (comes_after last v.time && are_unmixed inputs values v.moves) && (not (nat_eq earlier 0) || opens inputs (written values v.moves))
+
+-- since when all inputs are known, behind a vector at this time that leaves these values
+abbrev pub known_after : Option ℕ → List Bit → ℕ → Option ℕ
+known_after (Some since) values time = Some since
+known_after None values time = if list_all is_known values then Some time else None
+
+-- all that some vectors assign, behind some assignments
+abbrev pub given : List Move → List Vector → List Move
+given before [] = before
+given before (v ∷ vs) = given (before ++ v.moves) vs

@@ -3,3 +3,4 @@ pub mod Reading
 pub mod Script
 pub mod Held
 pub mod Fault
+pub mod History

@@ -1,6 +1,7 @@
 -- Which bytes are a script of a design in the thin form, and its vectors.
 use Rattle.std.specs.Prelude.{◌≡◌, ◌≢◌, ℕ, suc, ◌<◌, ◌≤◌, ◌^◌, ◌⊎◌, List, [], ◌∷◌, ◌++◌, length, slice_index_or}
 use Rattle.std.specs.List.{flat_map}
+use Rattle.std.specs.List.Sorted.{IsPermutation, IsStrictlyIncreasing}
 use Rattle.std.specs.Str.Parse.{digits_value}
 use Rattle.vod_text.specs.Numeral.{IsDecimal}
 use Rattle.vod_design.specs.declared.thin.Bit.{Bit}
@@ -8,7 +9,7 @@ use Rattle.vod_design.specs.declared.thin.Bit.TheVariants as bit
 use Rattle.vod_design.specs.declared.thin.Move.{Move}
 use Rattle.vod_design.specs.declared.thin.Vector.{Vector}
 use Rattle.vod_design.specs.Netlist.{Netlist}
-use Rattle.vod_design.specs.Vectors.{IsLawful}
+use Rattle.vod_design.specs.Vectors.{IsLawful, assigned}
 use Rattle.vod_design.specs.Names.{input_names}
 
 -- the digit of a bit
@@ -22,12 +23,16 @@ digit_of bit.Z = 122
 abbrev pub assignment_text : Netlist → Move → List ℕ
 assignment_text d move = 32 ∷ (slice_index_or (input_names d) move.input [] ++ 61 ∷ digit_of move.value ∷ [])
 
--- `TIME NAME=VALUE ..`: the line of a vector, without its LF; the time is 1 to 19 decimal digits
+-- `TIME NAME=VALUE ..`: the line of a vector, without its LF; the time is 1 to 19 decimal digits, and the assignments are those
+-- of the vector in any order, which the vector has by rising input
 pub record IsLine (d : Netlist) (line : List ℕ) (v : Vector) : Type 0 where
   pub time : List ℕ
   pub decimal : IsDecimal time
   pub value : digits_value 10 time ≡ v.time
-  pub text : line ≡ time ++ flat_map (assignment_text d) v.moves
+  pub moves : List Move
+  pub order : IsPermutation moves v.moves
+  pub rises : IsStrictlyIncreasing (assigned v.moves)
+  pub text : line ≡ time ++ flat_map (assignment_text d) moves
 
 -- lines of these vectors, in order, each ended by LF
 abbrev pub AreLines : Netlist → List ℕ → List Vector → Type 0

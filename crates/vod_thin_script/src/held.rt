@@ -1,8 +1,10 @@
 //! What the inputs of a design hold between the lines of a script, and which vectors may come next.
-ghost use Rattle.std.specs.Prelude.{◌≡◌, ◌<◌, ◌==◌, ◌||◌, not, length, zip, slice_get, All};
+ghost use Rattle.std.specs.Prelude.{◌≡◌, ◌<◌, ◌==◌, ◌||◌, not, length, replicate, zip, slice_get, All};
 ghost use Rattle.std.specs.List.{list_all, list_any};
 ghost use Rattle.vod_design.specs.Netlist.{is_clock};
-ghost use Rattle.vod_thin_script.specs.Held.{written, leaves, same_class, is_of, change_only, are_unmixed, suits, may_open};
+ghost use Rattle.vod_design.specs.declared.thin.Bit.TheVariants.{Z};
+ghost use Rattle.vod_design.specs.Bits as bits;
+ghost use Rattle.vod_thin_script.specs.Held.{written, leaves, same_class, is_of, change_only, are_unmixed, suits, opens};
 
 use vod_design::thin::{Bit, Class, Input, Move};
 
@@ -62,21 +64,46 @@ fn has_data(inputs: &[Input]) -> bool
         .any(|input| same_class(Class::Data, input.class))
 }
 
-fn all_suit(inputs: &[Input], last_times: &[u64], time: u64) -> bool
-    ensures { result ≡ list_all (λ e. suits e.0 (e.1 == time)) (zip inputs.now last_times.now) }
+fn is_known(value: Bit) -> bool
+    ensures { result ≡ bits.is_known value }
+{
+    matches!(value, Bit::Zero | Bit::One)
+}
+
+/// Whether all values are known.
+pub fn are_known(values: &[Bit]) -> bool
+    ensures { result ≡ list_all bits.is_known values.now }
+{
+    values.iter().all(|value| is_known(*value))
+}
+
+fn known_suit(inputs: &[Input], values: &[Bit]) -> bool
+    ensures { result ≡ list_all (λ e. suits e.0 (bits.is_known e.1)) (zip inputs.now values.now) }
 {
     inputs
         .iter()
-        .zip(last_times)
-        .all(|(input, last)| suits(input, *last == time))
+        .zip(values)
+        .all(|(input, value)| suits(input, is_known(*value)))
 }
 
-/// Whether the inputs whose last time is this one may be those of the first vector: all data and no clock, where there is
-/// data.
-pub fn may_open(inputs: &[Input], last_times: &[u64], time: u64) -> bool
-    ensures { result ≡ may_open inputs.now last_times.now time }
+fn opens(inputs: &[Input], values: &[Bit]) -> bool
+    ensures { result ≡ opens inputs.now values.now }
 {
-    !has_data(inputs) || all_suit(inputs, last_times, time)
+    !has_data(inputs) || known_suit(inputs, values)
+}
+
+/// Whether some assignments may be those of the first vector: of all data and of no clock, where there is data. No input has a
+/// value before and after the call.
+pub fn may_begin(inputs: &[Input], values: &mut [Bit], moves: &[Move]) -> bool
+    requires within { All (λ move. move.input < length values.old) moves.now }
+    requires fresh { values.old ≡ replicate (length values.old) Z }
+    ensures kept { values.new ≡ values.old }
+    ensures begins { result ≡ opens inputs.now (written values.old moves.now) }
+{
+    write(values, moves);
+    let begins = opens(inputs, values);
+    values.fill(Bit::Z);
+    begins
 }
 
 /// Notes the values that some assignments give.

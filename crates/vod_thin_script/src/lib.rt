@@ -2,6 +2,7 @@
 #![tactic(auto)]
 
 mod held;
+mod history;
 mod inputs;
 mod line;
 mod pieces;
@@ -9,6 +10,7 @@ mod script;
 #[cfg(test)]
 mod tests;
 
+pub use history::{AddFault, History};
 pub use script::{one_reading, one_refusal, read_script};
 use std::alloc::{AllocError, AllocFailed};
 
