@@ -1,0 +1,33 @@
+//! The records of a log of a thin design, as bytes.
+#![tactic(auto)]
+
+mod frame;
+mod law;
+mod read;
+#[cfg(test)]
+mod tests;
+
+pub use frame::Frame;
+pub use law::{batches_are_short, frames_are_records, inputs_fit, one_batch, one_head, one_log};
+pub use read::{read_head, read_vector};
+use std::alloc::{AllocError, AllocFailed};
+
+/// The refusal for want of memory.
+#[derive(Clone, Copy, Debug, PartialEq, Eq)]
+pub struct Memory;
+
+impl From<AllocError> for Memory {
+    ghost from_gives = { λ _ _. Unit {0} };
+
+    fn from(_error: AllocError) -> Memory {
+        Memory
+    }
+}
+
+impl<T: Drop> From<AllocFailed<T>> for Memory {
+    ghost from_gives = { λ _ _. Unit {0} };
+
+    fn from(_failed: AllocFailed<T>) -> Memory {
+        Memory
+    }
+}
