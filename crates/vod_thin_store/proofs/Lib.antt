@@ -1,0 +1,11 @@
+pub mod Acknowledged
+pub mod Begins
+pub mod Commits
+pub mod Cuts
+pub mod Frames
+pub mod Held
+pub mod Lines
+pub mod Said
+pub mod Stored
+pub mod Ticks
+pub mod Vectors

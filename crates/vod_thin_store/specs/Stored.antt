@@ -1,0 +1,66 @@
+-- What is recorded of vectors, and what a stop leaves.
+use Rattle.std.specs.Prelude.{◌≡◌, ℕ, ◌≤◌, nat_le, List, ◌++◌, length, take, Option, None, Some, ◌⊎◌, if◌then◌else◌}
+use Rattle.vod_deck.specs.Outcomes.{Outcome, View, From, Leaves}
+use Rattle.vod_design.specs.declared.thin.Vector.{Vector}
+use Rattle.vod_design.specs.Netlist.{Netlist}
+use Rattle.vod_log.specs.declared.header.Header.{Header}
+use Rattle.vod_log.specs.Format.{Reading, never, committed, counts_of}
+use Rattle.vod_log.specs.Tail.{HoldsEither, IsSettled}
+use Rattle.vod_thin_code.specs.Held.{counts, said, IsHeld, IsSound}
+
+-- an outcome has the text of one before, and behind it this one
+abbrev pub HasSaid : List ℕ → Outcome → Outcome → Type 0
+HasSaid text d c = c.said ≡ d.said ++ text
+
+-- a text begins with this one
+abbrev pub BeginsWith : List ℕ → List ℕ → Type 0
+BeginsWith text front = (rest : List ℕ) × (text ≡ front ++ rest)
+
+-- an outcome has the records of one before, and its text
+pub record IsAsBefore (e c : Outcome) : Type 0 where
+  pub file : committed c.file ≡ committed e.file
+  pub text : c.said ≡ e.said
+
+-- an outcome holds the first k vectors, and behind the text of one before it has a front of what is said of these
+pub record HoldsFirst (d : Netlist) (source : List ℕ) (vs : List Vector) (e c : Outcome) (k : ℕ) : Type 0 where
+  pub most : k ≤ length vs
+  pub sound : IsSound d source 4096 (take k vs) c.file
+  pub front : List ℕ
+  pub text : c.said ≡ e.said ++ front
+  pub begins : BeginsWith (said (take k vs)) front
+
+-- an outcome holds some first vectors, and has acknowledged no others
+abbrev pub Adds : Netlist → List ℕ → List Vector → Outcome → Outcome → Type 0
+Adds d source vs e c = (k : ℕ) × HoldsFirst d source vs e c k
+
+-- what a stop leaves while vectors are recorded, from an outcome at entry
+abbrev pub Records : Netlist → List ℕ → List Vector → Outcome → Outcome → Type 0
+Records d source vs e c = IsAsBefore e c ⊎ Adds d source vs e c
+
+-- an outcome holds the new record too, and has a front of the text that is said then
+pub record HasBegunToSay (new : Reading) (text : List ℕ) (d c : Outcome) : Type 0 where
+  pub file : committed c.file ≡ new
+  pub count : ℕ
+  pub front : c.said ≡ d.said ++ take count text
+
+-- an outcome while a record is appended and then a text is said
+abbrev pub Commits : Reading → Reading → List ℕ → Outcome → Outcome → Type 0
+Commits old new text d c = HoldsEither old new d c ⊎ HasBegunToSay new text d c
+
+-- the time since when every input is known, as a header with this last time has it
+abbrev pub known_by : Option ℕ → ℕ → ℕ
+known_by None last = never
+known_by (Some time) last = if nat_le time last then time else never
+
+-- the last header of a log has the counts of these vectors
+pub record EndsWith (d : Netlist) (vs : List Vector) (last : Option Header) : Type 0 where
+  pub header : Header
+  pub is : last ≡ Some header
+  pub has_counts : counts_of (Some header) ≡ counts d vs
+
+-- a deck holds a log of the first k vectors, all of them acknowledged since the entry, and what a stop left since
+pub record HasStored (d : Netlist) (source : List ℕ) (vs : List Vector) (k : ℕ) (entry now : View) (gate : ℕ) (last : Option Header) : Type 0 where
+  pub held : IsHeld d source 4096 (take k vs) now.bytes
+  pub settled : IsSettled now gate last
+  pub outcomes : (c : Outcome) → now.may_leave c → From entry.may_leave (HasSaid (said (take k vs))) c
+  pub stops : Leaves entry now (From entry.may_leave (Adds d source vs))

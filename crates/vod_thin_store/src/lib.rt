@@ -1,0 +1,46 @@
+//! Vectors of a thin design, recorded in a log.
+#![tactic(auto)]
+
+mod ack;
+mod append;
+mod law;
+mod store;
+#[cfg(test)]
+mod tests;
+
+pub use law::said_is_held;
+pub use store::record;
+use vod_io::Failed;
+
+/// Why vectors aren't recorded whole.
+#[derive(Clone, Copy, Debug, PartialEq, Eq)]
+pub enum StoreFault {
+    /// The deck counted a fault.
+    Deck,
+    /// The log isn't empty.
+    NotEmpty,
+    /// There was no memory.
+    Memory,
+}
+
+impl From<Failed> for StoreFault {
+    ghost use Rattle.std.specs.Prelude.{◌≡◌};
+    ghost use Rattle.vod_thin_store.specs.declared.StoreFault.TheVariants.{Deck};
+
+    ghost from_gives = { λ _ fault. fault ≡ Deck };
+
+    fn from(_: Failed) -> StoreFault {
+        StoreFault::Deck
+    }
+}
+
+impl From<vod_thin_code::Memory> for StoreFault {
+    ghost use Rattle.std.specs.Prelude.{◌≡◌};
+    ghost use Rattle.vod_thin_store.specs.declared.StoreFault.TheVariants.{Memory};
+
+    ghost from_gives = { λ _ fault. fault ≡ Memory };
+
+    fn from(_: vod_thin_code::Memory) -> StoreFault {
+        StoreFault::Memory
+    }
+}
