@@ -1,0 +1,38 @@
+//! What a window needs of an opened log: its source, and its vectors up to a time.
+#![tactic(auto)]
+
+mod batch;
+mod held;
+mod law;
+mod source;
+#[cfg(test)]
+mod tests;
+mod vectors;
+
+pub use held::{RangeFault, first_image, range};
+pub use law::sound_is_undamaged;
+pub use source::read_source;
+use std::alloc::AllocError;
+pub use vectors::read_vectors;
+
+/// Why what a log holds isn't read.
+#[derive(Clone, Copy, Debug, PartialEq, Eq)]
+pub enum ReplayFault {
+    /// The deck counted a fault.
+    Deck,
+    /// The payload of the record at this gate isn't what a log of the design holds there.
+    Damaged(u64),
+    /// There was no memory.
+    Memory,
+}
+
+impl From<AllocError> for ReplayFault {
+    ghost use Rattle.std.specs.Prelude.{◌≡◌};
+    ghost use Rattle.vod_thin_replay.specs.declared.ReplayFault.TheVariants.{Memory};
+
+    ghost from_gives = { λ _ fault. fault ≡ Memory };
+
+    fn from(_: AllocError) -> ReplayFault {
+        ReplayFault::Memory
+    }
+}
