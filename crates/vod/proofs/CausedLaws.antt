@@ -1,183 +1,408 @@
 -- Each status of the program, from the answer of its command and the report of it.
-use Rattle.std.proofs.Common.{◌≡◌, ◌⊎◌, ℕ, List, Some, Ok, Err, refl, sym, ap, subst, ◌∙◌, inl, inr}
+use Rattle.std.proofs.Common.{◌≡◌, ◌⊎◌, ℕ, ◌<◌, ◌≤◌, ◌^◌, List, [], length, true, false, min, Option, None, Some, Result, Ok, Err, refl, sym, ap, subst, ◌∙◌, inl, inr, arith}
 use Rattle.vod_design.specs.declared.thin.Vector.{Vector}
-use Rattle.vod_design.specs.Netlist.{Netlist}
+use Rattle.vod_design.specs.Netlist.{Netlist, IsAccepted}
+use Rattle.vod_log.specs.Format.{committed, counts_of}
 use Rattle.vod_thin_script.specs.Script as script
-use Rattle.vod.specs.Sources.{IsSource, IsRefusedSource}
-use Rattle.vod.specs.Request.{Request, Asks}
-use Rattle.vod.specs.Answer.{Count, IsRisen, World, HasCommand, HasNoCommand, HasDesign, Answers, IsQuiet}
+use Rattle.vod_thin_code.specs.Held.{IsHeld, IsSound}
+use Rattle.vod_thin_replay.specs.Range.{range_of}
+use Rattle.vod_thin_replay.specs.declared.held.RangeFault as range
+use Rattle.vod_thin_replay.specs.Replay.{HoldsSource, IsHeadDamagedAt, IsDamagedAt}
+use Rattle.vod_thin_window.specs.declared.window.Window as span
+use Rattle.vod_thin_window.specs.Request.{Request}
+use Rattle.vod.specs.Sources.{IsSource, IsRefusedSource, IsOtherSource, IsUnrecordable}
+use Rattle.vod.specs.Answer.{Count, IsRisen, Inputs, Output, Device, World, IsDeckRisen, HasNoCommand, HasDesign, Asks, IsFresh, IsPlain, IsInside, HasImage, HoldsThin, HoldsOther, IsDamaged, DumpAnswers, RecordAnswers, WindowAnswers, CommandAnswers, Answers}
+use Rattle.vod_io.specs.Told.{appended, Puts}
+use Rattle.vod.specs.Ends.{line_of, status_of, Reports}
+use Rattle.vod.specs.Caused.{status_for, IsReported, IsCaused, IsCalm, ToldDesign, DumpStands, RecordStands, WindowStands, Stands, IsComplete, IsAnswered, status_line, IsSaid, MayWrite}
+use Rattle.vod.specs.Command.{IsCommand}
+use Rattle.vod.specs.Quiet.{Writes}
+use Rattle.std.proofs.lemmas.List.{append-nil}
+use Rattle.vod_thin_replay.specs.declared.held.RangeFault.TheVariants as ranges
 use Rattle.vod.proofs.SourceLaws.{OneAnswer}
-use Rattle.vod.specs.Ends.{status_of}
-use Rattle.vod.specs.Caused.{IsCaused, IsCalm, IsComplete, IsPrefix, IsAnswered}
+use Rattle.vod.proofs.CommandLaws.{one_command}
+use Rattle.vod.proofs.WindowLaws.{Laws, one_source, some_source, same_source}
+use Rattle.vod.specs.declared.command.Command.{Command}
+use Rattle.vod.specs.declared.command.Command.TheVariants as command
 use Rattle.vod.specs.declared.status.Part.TheVariants as part
 use Rattle.vod.specs.declared.status.Status.{Status}
 use Rattle.vod.specs.declared.status.Status.TheVariants as status
 use Rattle.vod.specs.declared.status.Stop.{Stop}
 use Rattle.vod.specs.declared.status.Stop.TheVariants as stop
 
--- the stop that a status was reported of
-stop_at : Status → Stop
-stop_at status.Ok = stop.Usage
-stop_at status.Usage = stop.Usage
-stop_at (status.NotYet p place) = stop.NotYet p place
-stop_at status.ReadFault = stop.Read
-stop_at status.WriteFault = stop.Write
-stop_at status.OutOfMemory = stop.Memory
-
-stop_at-status : (s : Stop) → stop_at (status_of s) ≡ s
-unfolding stop_at
-stop_at-status stop.Usage = refl
-stop_at-status (stop.NotYet p place) = refl
-stop_at-status stop.Read = refl
-stop_at-status stop.Write = refl
-stop_at-status stop.Memory = refl
-
--- a stop was reported: its status, or a fault of the error stream
-abbrev pub IsReported : Stop → Count → Status → Type 0
-IsReported s err answer = (answer ≡ status_of s) ⊎ ((answer ≡ status.WriteFault) × IsRisen err)
-
--- the answer of the command, by the status that reports it
-reported : (w : World) (err : Count) (s : Stop) (answer target : Status) → Answers w (Err s) → IsReported s err answer → answer ≡ target → (status.WriteFault ≡ target → ⊥) → Answers w (Err (stop_at target))
-reported w err s answer target h (inl e) at other = subst (λ v. Answers w (Err v)) (sym (stop_at-status s) ∙ ap stop_at (sym e ∙ at)) h
-reported w err s answer target h (inr f) at other = absurd (other (sym f.0 ∙ at))
-
-no_stop_is_ok : (s : Stop) → status_of s ≡ status.Ok → ⊥
-no_stop_is_ok stop.Usage h = cc
-no_stop_is_ok (stop.NotYet p place) h = cc
-no_stop_is_ok stop.Read h = cc
-no_stop_is_ok stop.Write h = cc
-no_stop_is_ok stop.Memory h = cc
-
-not_ok : (s : Stop) (err : Count) (answer : Status) → IsReported s err answer → answer ≡ status.Ok → ⊥
-not_ok s err answer (inl e) at = no_stop_is_ok s (sym e ∙ at)
-not_ok s err answer (inr f) at = let clash : status.WriteFault ≡ status.Ok = sym f.0 ∙ at in cc
-
-write_of : (w : World) (err : Count) (s : Stop) (answer : Status) → Answers w (Err s) → IsReported s err answer → answer ≡ status.WriteFault → (HasCommand w × HasDesign w × IsRisen w.out_faults) ⊎ IsRisen err
-unfolding stop_at
-write_of w err s answer h (inr f) at = inr f.1
-write_of w err s answer h (inl e) at = let written = subst (λ v. Answers w (Err v)) (sym (stop_at-status s) ∙ ap stop_at (sym e ∙ at)) h in inl (written.0, written.1, written.2)
-
-caused_stop : (w : World) (err : Count) (s : Stop) (answer : Status) → Answers w (Err s) → IsReported s err answer → IsCaused w err answer
-unfolding stop_at
-caused_stop w err s answer h r = record {
-  ok = λ e. absurd (not_ok s err answer r e);
-  usage = λ e. reported w err s answer status.Usage h r e (λ c. cc);
-  design = λ place e. reported w err s answer (status.NotYet part.Design place) h r e (λ c. cc);
-  script = λ line e. reported w err s answer (status.NotYet part.Script line) h r e (λ c. cc);
-  read_fault = λ e. reported w err s answer status.ReadFault h r e (λ c. cc);
-  write_fault = write_of w err s answer h r;
-  out_of_memory = λ e. (reported w err s answer status.OutOfMemory h r e (λ c. cc)).0;
-}
-
-prefix_of : (w : World) (s : Stop) → Answers w (Err s) → (IsQuiet (Err s) → w.after ≡ w.before) → IsPrefix w
-prefix_of w stop.Usage h quiet = inl (quiet tt)
-prefix_of w (stop.NotYet p place) h quiet = inl (quiet tt)
-prefix_of w stop.Read h quiet = inl (quiet tt)
-prefix_of w stop.Write h quiet = inr h.3
-prefix_of w stop.Memory h quiet = h.1
-
--- where no count rose, a stop is reported by its status
-calm_report : (w : World) (err : Count) (s : Stop) (answer : Status) → IsReported s err answer → (IsRisen err → ⊥) → answer ≡ status_of s
-calm_report w err s answer (inl e) calm = e
-calm_report w err s answer (inr f) calm = absurd (calm f.1)
-
--- words that are no command are refused as such
-no_command_stop : (w : World) (s : Stop) → Answers w (Err s) → HasNoCommand w → s ≡ stop.Usage
-no_command_stop w stop.Usage h none = refl
-no_command_stop w (stop.NotYet part.Design place) h none = absurd (none h.0)
-no_command_stop w (stop.NotYet part.Script line) h none = absurd (none h.0)
-no_command_stop w stop.Read h none = absurd (none h.0)
-no_command_stop w stop.Write h none = absurd (none h.0)
-no_command_stop w stop.Memory h none = absurd (none h.0)
+-- the answer that was wanted, or want of memory
+abbrev IsWanted : Result (Unit {0}) Stop → Result (Unit {0}) Stop → Type 0
+IsWanted result wanted = (result ≡ wanted) ⊎ (result ≡ Err stop.Memory)
 
 -- no source or script failed
-no_read : (w : World) (err : Count) → Answers w (Err stop.Read) → IsCalm w err → ⊥
-no_read w err h calm = by_cause h.1
-  where
-    by_cause : IsRisen w.design_faults ⊎ (HasDesign w × IsRisen w.input_faults) → ⊥
-    by_cause (inl rose) = calm.design rose
-    by_cause (inr other) = calm.input other.1
+no_read : {P : Type 0} (w : World) (err : Count) → IsCalm w err → IsRisen w.inputs.design_faults ⊎ (P × IsRisen w.inputs.input_faults) → ⊥
+no_read w err calm (inl rose) = calm.design rose
+no_read w err calm (inr other) = calm.input other.1
 
--- the stop is of one kind, or for want of memory
-abbrev IsStop : Stop → Stop → Type 0
-IsStop s wanted = (s ≡ wanted) ⊎ (s ≡ stop.Memory)
+-- a told design isn't refused, and is one
+refused_not : OneAnswer → (i : Inputs) (d : Netlist) (place : ℕ) → ToldDesign i d → ((source : List ℕ) → i.source ≡ Some source → IsRefusedSource source place) → ⊥
+refused_not one i d place (source, told, is) h = one.apart source d place is (h source told)
 
--- a source that isn't of the form is refused at its place
-design_stop : OneAnswer → (w : World) (err : Count) (s : Stop) → Answers w (Err s) → IsCalm w err → HasCommand w → (source : List ℕ) (place : ℕ) → w.source ≡ Some source → IsRefusedSource source place → IsStop s (stop.NotYet part.Design place)
-design_stop one w err stop.Usage h calm command source place told no_source = absurd (h command)
-design_stop one w err (stop.NotYet part.Design other) h calm command source place told no_source = inl (ap (stop.NotYet part.Design) (one.place source other place (h.1 source told) no_source))
-design_stop one w err (stop.NotYet part.Script line) h calm command source place told no_source = let at = h.1 source told in absurd (one.apart source at.0 place at.1 no_source)
-design_stop one w err stop.Read h calm command source place told no_source = absurd (no_read w err h calm)
-design_stop one w err stop.Write h calm command source place told no_source = absurd (calm.out h.2)
-design_stop one w err stop.Memory h calm command source place told no_source = inr refl
+-- what is told of a design, by the one that the source has
+by_design : OneAnswer → (i : Inputs) (d : Netlist) (P : Netlist → Type 0) → ToldDesign i d → ((source : List ℕ) → i.source ≡ Some source → (e : Netlist) × IsSource source e × P e) → P d
+by_design one i d P (source, told, is) h =
+    let (e, other, p) = h source told in
+    subst P (one.design source e d other is) p
 
--- a script that isn't one of the design is refused at its line
-script_stop : OneAnswer → (w : World) (err : Count) (s : Stop) → Answers w (Err s) → IsCalm w err → HasCommand w → (source text : List ℕ) (d : Netlist) (line : ℕ) → w.source ≡ Some source → w.script ≡ Some text → IsSource source d → script.IsRefused d text line → IsStop s (stop.NotYet part.Script line)
-script_stop one w err stop.Usage h calm command source text d line told read is no_script = absurd (h command)
-script_stop one w err (stop.NotYet part.Design place) h calm command source text d line told read is no_script = absurd (one.apart source d place is (h.1 source told))
-script_stop one w err (stop.NotYet part.Script other) h calm command source text d line told read is no_script =
-    let at = h.2 source told text read in
-    let same : at.0 ≡ d = one.design source at.0 d at.1 is in
-    inl (ap (stop.NotYet part.Script) (one.line source d text other line is (subst (λ v. script.IsRefused v text other) same at.2) no_script))
-script_stop one w err stop.Read h calm command source text d line told read is no_script = absurd (no_read w err h calm)
-script_stop one w err stop.Write h calm command source text d line told read is no_script = absurd (calm.out h.2)
-script_stop one w err stop.Memory h calm command source text d line told read is no_script = inr refl
+-- what is asked for has the told design
+asked_apart : OneAnswer → (i : Inputs) (r : Request) (source : List ℕ) (place : ℕ) → Asks i r → i.source ≡ Some source → IsRefusedSource source place → ⊥
+asked_apart one i r source place asks told refused = one.apart source r.design place (subst (λ s. IsSource s r.design) (asks.source source told) asks.design) refused
 
--- a source and a script that are read are answered
-asked_stop : OneAnswer → (w : World) (err : Count) (s : Stop) → Answers w (Err s) → IsCalm w err → HasCommand w → (source text : List ℕ) (r : Request) → w.source ≡ Some source → w.script ≡ Some text → Asks source text r → s ≡ stop.Memory
-asked_stop one w err stop.Usage h calm command source text r told read asks = absurd (h command)
-asked_stop one w err (stop.NotYet part.Design place) h calm command source text r told read asks = absurd (one.apart source r.design place asks.design (h.1 source told))
-asked_stop one w err (stop.NotYet part.Script line) h calm command source text r told read asks =
-    let at = h.2 source told text read in
-    let same : at.0 ≡ r.design = one.design source at.0 r.design at.1 asks.design in
-    absurd (one.unread source r.design text line r.vectors asks.design (subst (λ v. script.IsRefused v text line) same at.2) asks.vectors)
-asked_stop one w err stop.Read h calm command source text r told read asks = absurd (no_read w err h calm)
-asked_stop one w err stop.Write h calm command source text r told read asks = absurd (calm.out h.2)
-asked_stop one w err stop.Memory h calm command source text r told read asks = refl
+asked_script : OneAnswer → (i : Inputs) (r : Request) (d : Netlist) (text : List ℕ) → ToldDesign i d → Asks i r → i.script ≡ Some text → script.IsScript d text r.vectors
+asked_script one i r d text (source, told, is) asks read =
+    let same : r.design ≡ d = one.design source r.design d (subst (λ s. IsSource s r.design) (asks.source source told) asks.design) is in
+    subst (λ e. script.IsScript e text r.vectors) same (asks.script text read)
 
--- a stop of one kind, or for want of memory, has the status of that kind, or of want of memory
-status_stop : (answer target : Status) (s wanted : Stop) → answer ≡ status_of s → status_of wanted ≡ target → IsStop s wanted → (answer ≡ target) ⊎ (answer ≡ status.OutOfMemory)
-status_stop answer target s wanted e at (inl same) = inl (e ∙ ap status_of same ∙ at)
-status_stop answer target s wanted e at (inr same) = inr (e ∙ ap status_of same)
+-- a script is refused, or isn't recorded, at one line, and then isn't recorded whole
+unrecordable_not : OneAnswer → (source : List ℕ) (d : Netlist) (text : List ℕ) (line : ℕ) (vs : List Vector) → IsSource source d → IsUnrecordable d text line → script.IsScript d text vs → length vs < 4096 → ⊥
+unrecordable_not one source d text line vs is (inl (wrong, refused, e)) reads few = one.unread source d text wrong vs is refused reads
+unrecordable_not one source d text line vs is (inr (ws, other, many, e)) reads few =
+    let same : length vs ≡ length ws = ap length (one.reading source d text vs ws is reads other) in
+    absurd (omega (arith, same, many, few))
 
-complete_stop : OneAnswer → (w : World) (err : Count) (s : Stop) (answer : Status) → Answers w (Err s) → IsReported s err answer → IsComplete w err answer
-complete_stop one w err s answer h r = record {
-  usage = λ none calm. calm_report w err s answer r calm ∙ ap status_of (no_command_stop w s h none);
-  design = λ calm command source place told no_source.
-      status_stop answer (status.NotYet part.Design place) s (stop.NotYet part.Design place) (calm_report w err s answer r calm.errors) refl (design_stop one w err s h calm command source place told no_source);
-  script = λ calm command source text d line told read is no_script.
-      status_stop answer (status.NotYet part.Script line) s (stop.NotYet part.Script line) (calm_report w err s answer r calm.errors) refl (script_stop one w err s h calm command source text d line told read is no_script);
-  ok = λ calm command source text q told read asks. inr (calm_report w err s answer r calm.errors ∙ ap status_of (asked_stop one w err s h calm command source text q told read asks));
-}
+one_unrecordable : OneAnswer → (source : List ℕ) (d : Netlist) (text : List ℕ) (k l : ℕ) → IsSource source d → IsUnrecordable d text k → IsUnrecordable d text l → k ≡ l
+one_unrecordable one source d text k l is (inl (v, refused, e)) (inl (w, again, f)) = e ∙ ap (λ n. min n 4096) (one.line source d text v w is refused again) ∙ sym f
+one_unrecordable one source d text k l is (inl (v, refused, e)) (inr (ws, reads, many, f)) = absurd (one.unread source d text v ws is refused reads)
+one_unrecordable one source d text k l is (inr (vs, reads, many, e)) (inl (w, again, f)) = absurd (one.unread source d text w vs is again reads)
+one_unrecordable one source d text k l is (inr (vs, reads, many, e)) (inr (ws, again, more, f)) = e ∙ sym f
 
-pub answered_stop : OneAnswer → (w : World) (err : Count) (s : Stop) (answer : Status) → Answers w (Err s) → IsReported s err answer → (IsQuiet (Err s) → w.after ≡ w.before) → IsAnswered w err answer
-answered_stop one w err s answer h r quiet = record {
-  caused = caused_stop w err s answer h r;
-  complete = complete_stop one w err s answer h r;
-  write_prefix = λ _. prefix_of w s h quiet;
-  memory_prefix = λ _. prefix_of w s h quiet;
-}
+no_record_read : (w : World) (err : Count) → IsCalm w err → IsRisen w.inputs.design_faults ⊎ (HasDesign w.inputs × (w.device.told → IsFresh w.device) × IsRisen w.inputs.input_faults) → ⊥
+no_record_read w err calm (inl rose) = calm.design rose
+no_record_read w err calm (inr other) = calm.input other.2
 
-pub answered_ok : OneAnswer → (w : World) (err : Count) (done : Unit {0}) → Answers w (Ok done) → IsAnswered w err status.Ok
-answered_ok one w err done h = record {
-  caused = record {
-    ok = λ _. h;
-    usage = λ e. cc;
-    design = λ place e. cc;
-    script = λ line e. cc;
-    read_fault = λ e. cc;
-    write_fault = λ e. cc;
-    out_of_memory = λ e. cc;
-  };
+-- the laws of held logs
+pub record Held : Type 0 where
+  pub laws : Laws
+  pub undamaged : (d : Netlist) → IsAccepted d → (source : List ℕ) (interval : ℕ) (vs : List Vector) (bytes : List ℕ) (at : ℕ) → IsSound d source interval vs bytes → IsDamagedAt d bytes at → ⊥
+
+same_some : {A : Type 0} {a b : A} → Some a ≡ Some b → a ≡ b
+same_some e = cc
+
+same_err : {a b : range.RangeFault} (r : Result (Unit {0}) range.RangeFault) → r ≡ Err a → r ≡ Err b → a ≡ b
+same_err r e f = let both = sym e ∙ f in cc
+
+framed_clash : (bytes : List ℕ) → (committed bytes).framed ≡ true → (committed bytes).framed ≡ false → ⊥
+framed_clash bytes is not = let differ : true ≡ false = sym is ∙ not in cc
+
+range_clash : (bytes : List ℕ) (window : span.Window) (fault : range.RangeFault) → range_of (counts_of (committed bytes).last) window.from window.to ≡ Ok tt → range_of (counts_of (committed bytes).last) window.from window.to ≡ Err fault → ⊥
+range_clash bytes window fault none some = let differ : Ok tt ≡ Err fault = sym none ∙ some in cc
+
+image_clash : (bytes : List ℕ) (at : ℕ) → IsPlain bytes → HasImage bytes at → ⊥
+image_clash bytes at plain has = let clash : None ≡ Some at = sym plain.no_image ∙ has.image in cc
+
+-- what stands where a log isn't read yet
+abbrev IsNoLog : List ℕ → span.Window → ℕ → Type 0
+IsNoLog bytes window at = HasImage bytes at ⊎ (IsInside bytes window × HoldsOther bytes × (at ≡ 0))
+
+-- a source of the thin form is no other
+other_apart : OneAnswer → (source : List ℕ) (d : Netlist) → IsSource source d → IsOtherSource source → ⊥
+other_apart one source d is (inl long) = let short = is.short in absurd (omega (arith, long, short))
+other_apart one source d is (inr (place, refused)) = one.apart source d place is refused
+
+sound_no_log : OneAnswer → Held → (bytes : List ℕ) (window : span.Window) (at : ℕ) (source : List ℕ) (d : Netlist) (interval : ℕ) (vs : List Vector) → IsInside bytes window → IsSource source d → IsSound d source interval vs bytes → IsNoLog bytes window at → ⊥
+sound_no_log one held bytes window at source d interval vs inside is sound (inl image) = image_clash bytes at inside.plain image
+sound_no_log one held bytes window at source d interval vs inside is sound (inr (here, other, zero_is)) =
+    let same = same_source held.laws bytes other.source source d interval vs other.has_source sound.held in
+    other_apart one source d is (subst IsOtherSource same other.other)
+
+sound_undamaged : OneAnswer → Held → (bytes : List ℕ) (at : ℕ) (source : List ℕ) (d : Netlist) (interval : ℕ) (vs : List Vector) → IsSource source d → IsSound d source interval vs bytes → IsDamaged bytes at → ⊥
+sound_undamaged one held bytes at source d interval vs is sound (inl none) =
+    some_source bytes source at (record { head = sound.held.head; batches = sound.held.batches; entries = sound.held.entries; interval = interval; is_head = sound.held.is_head }) none
+sound_undamaged one held bytes at source d interval vs is sound (inr (other, e, has, is_other, accepted, damaged)) =
+    let sources : other ≡ source = same_source held.laws bytes other source d interval vs has sound.held in
+    let designs : e ≡ d = one.design source e d (subst (λ s. IsSource s e) sources is_other) is in
+    held.undamaged d (subst IsAccepted designs accepted) source interval vs bytes at sound (subst (λ n. IsDamagedAt n bytes at) designs damaged)
+
+one_log_place : OneAnswer → Held → (bytes : List ℕ) (window : span.Window) (at wanted : ℕ) → IsNoLog bytes window at → IsNoLog bytes window wanted → at ≡ wanted
+one_log_place one held bytes window at wanted (inl image) (inl again) = same_some (sym image.image ∙ again.image)
+one_log_place one held bytes window at wanted (inl image) (inr (inside, other, e)) = absurd (image_clash bytes at inside.plain image)
+one_log_place one held bytes window at wanted (inr (inside, other, e)) (inl image) = absurd (image_clash bytes wanted inside.plain image)
+one_log_place one held bytes window at wanted (inr (inside, other, e)) (inr (again, more, f)) = e ∙ sym f
+
+log_not_range : (bytes : List ℕ) (window : span.Window) (at : ℕ) (fault : range.RangeFault) → IsNoLog bytes window at → IsPlain bytes → range_of (counts_of (committed bytes).last) window.from window.to ≡ Err fault → ⊥
+log_not_range bytes window at fault (inl image) plain refused = image_clash bytes at plain image
+log_not_range bytes window at fault (inr (inside, other, e)) plain refused = range_clash bytes window fault inside.range refused
+
+log_framed : (bytes : List ℕ) (window : span.Window) (at : ℕ) → IsNoLog bytes window at → (committed bytes).framed ≡ true
+log_framed bytes window at (inl image) = image.framed
+log_framed bytes window at (inr (inside, other, e)) = inside.plain.framed
+
+other_undamaged : OneAnswer → Held → (bytes : List ℕ) (at : ℕ) → HoldsOther bytes → IsDamaged bytes at → ⊥
+other_undamaged one held bytes at other (inl none) = some_source bytes other.source at other.has_source none
+other_undamaged one held bytes at other (inr (source, d, has, is, accepted, damaged)) =
+    other_apart one source d is (subst IsOtherSource (one_source held.laws bytes other.source source other.has_source has) other.other)
+
+log_undamaged : OneAnswer → Held → (bytes : List ℕ) (window : span.Window) (wanted at : ℕ) → IsNoLog bytes window wanted → IsInside bytes window → IsDamaged bytes at → ⊥
+log_undamaged one held bytes window wanted at (inl image) inside damaged = image_clash bytes wanted inside.plain image
+log_undamaged one held bytes window wanted at (inr (here, other, e)) inside damaged = other_undamaged one held bytes at other damaged
+
+log_not_ok : OneAnswer → Held → (bytes : List ℕ) (window : span.Window) (wanted : ℕ) → IsNoLog bytes window wanted → IsInside bytes window → HoldsThin bytes → ⊥
+log_not_ok one held bytes window wanted (inl image) inside thin = image_clash bytes wanted inside.plain image
+log_not_ok one held bytes window wanted (inr (here, other, e)) inside (source, d, has, is) =
+    other_apart one source d is (subst IsOtherSource (one_source held.laws bytes other.source source other.has_source has) other.other)
+
+dump_ok : OneAnswer → (w : World) (err : Count) → IsCalm w err → (result : Result (Unit {0}) Stop) → DumpAnswers w.inputs w.output result → DumpStands w.inputs (Ok tt) → IsWanted result (Ok tt)
+dump_ok one w err calm (Ok done) h s = inl refl
+dump_ok one w err calm (Err stop.Usage) h s = absurd h
+dump_ok one w err calm (Err (stop.NotYet part.Design place)) h (d, text, design, read, (vs, is, u)) = absurd (refused_not one w.inputs d place design h)
+dump_ok one w err calm (Err (stop.NotYet part.Script line)) h (d, text, design, read, (vs, is, u)) = absurd (one.unread design.0 d text line vs design.2 (by_design one w.inputs d (λ e. script.IsRefused e text line) design (λ source told. h.1 source told text read)) is)
+dump_ok one w err calm (Err (stop.NotYet part.Log at)) h s = absurd h
+dump_ok one w err calm (Err (stop.Range fault)) h s = absurd h
+dump_ok one w err calm (Err (stop.NotALog at)) h s = absurd h
+dump_ok one w err calm (Err (stop.Damaged at)) h s = absurd h
+dump_ok one w err calm (Err stop.Deck) h s = absurd h
+dump_ok one w err calm (Err stop.Read) h s = absurd (no_read w err calm h)
+dump_ok one w err calm (Err stop.Write) h s = absurd (calm.out h.0)
+dump_ok one w err calm (Err stop.Memory) h s = inr refl
+
+dump_design : OneAnswer → (w : World) (err : Count) → IsCalm w err → (wanted : ℕ) (result : Result (Unit {0}) Stop) → DumpAnswers w.inputs w.output result → DumpStands w.inputs (Err (stop.NotYet part.Design wanted)) → IsWanted result (Err (stop.NotYet part.Design wanted))
+dump_design one w err calm wanted (Ok done) h (source, told, refused) = absurd (asked_apart one w.inputs h.0 source wanted h.1 told refused)
+dump_design one w err calm wanted (Err stop.Usage) h s = absurd h
+dump_design one w err calm wanted (Err (stop.NotYet part.Design place)) h (source, told, refused) = inl (ap (λ p. Err (stop.NotYet part.Design p)) (one.place source place wanted (h source told) refused))
+dump_design one w err calm wanted (Err (stop.NotYet part.Script line)) h (source, told, refused) = let has = h.0 source told in absurd (one.apart source has.0 wanted has.1 refused)
+dump_design one w err calm wanted (Err (stop.NotYet part.Log at)) h s = absurd h
+dump_design one w err calm wanted (Err (stop.Range fault)) h s = absurd h
+dump_design one w err calm wanted (Err (stop.NotALog at)) h s = absurd h
+dump_design one w err calm wanted (Err (stop.Damaged at)) h s = absurd h
+dump_design one w err calm wanted (Err stop.Deck) h s = absurd h
+dump_design one w err calm wanted (Err stop.Read) h s = absurd (no_read w err calm h)
+dump_design one w err calm wanted (Err stop.Write) h s = absurd (calm.out h.0)
+dump_design one w err calm wanted (Err stop.Memory) h s = inr refl
+
+dump_script : OneAnswer → (w : World) (err : Count) → IsCalm w err → (wanted : ℕ) (result : Result (Unit {0}) Stop) → DumpAnswers w.inputs w.output result → DumpStands w.inputs (Err (stop.NotYet part.Script wanted)) → IsWanted result (Err (stop.NotYet part.Script wanted))
+dump_script one w err calm wanted (Ok done) h (d, text, design, read, is) = absurd (one.unread design.0 d text wanted h.0.vectors design.2 is (asked_script one w.inputs h.0 d text design h.1 read))
+dump_script one w err calm wanted (Err stop.Usage) h s = absurd h
+dump_script one w err calm wanted (Err (stop.NotYet part.Design place)) h (d, text, design, read, is) = absurd (refused_not one w.inputs d place design h)
+dump_script one w err calm wanted (Err (stop.NotYet part.Script line)) h (d, text, design, read, is) = inl (ap (λ l. Err (stop.NotYet part.Script l)) (one.line design.0 d text line wanted design.2 (by_design one w.inputs d (λ e. script.IsRefused e text line) design (λ source told. h.1 source told text read)) is))
+dump_script one w err calm wanted (Err (stop.NotYet part.Log at)) h s = absurd h
+dump_script one w err calm wanted (Err (stop.Range fault)) h s = absurd h
+dump_script one w err calm wanted (Err (stop.NotALog at)) h s = absurd h
+dump_script one w err calm wanted (Err (stop.Damaged at)) h s = absurd h
+dump_script one w err calm wanted (Err stop.Deck) h s = absurd h
+dump_script one w err calm wanted (Err stop.Read) h s = absurd (no_read w err calm h)
+dump_script one w err calm wanted (Err stop.Write) h s = absurd (calm.out h.0)
+dump_script one w err calm wanted (Err stop.Memory) h s = inr refl
+
+record_ok : OneAnswer → (w : World) (err : Count) → IsCalm w err → (result : Result (Unit {0}) Stop) → RecordAnswers w.inputs w.device result → RecordStands w.inputs w.device (Ok tt) → IsWanted result (Ok tt)
+record_ok one w err calm (Ok done) h s = inl refl
+record_ok one w err calm (Err stop.Usage) h s = absurd h
+record_ok one w err calm (Err (stop.NotYet part.Design place)) h (told, fresh, (d, text, design, read, (vs, is, few))) = absurd (refused_not one w.inputs d place design h)
+record_ok one w err calm (Err (stop.NotYet part.Script line)) h (told, fresh, (d, text, design, read, (vs, is, few))) = absurd (unrecordable_not one design.0 d text line vs design.2 (by_design one w.inputs d (λ e. IsUnrecordable e text line) design (λ source source_told. h.2 source source_told text read)) is few)
+record_ok one w err calm (Err (stop.NotYet part.Log at)) h (told, fresh, (d, text, design, read, (vs, is, few))) = let more = h.1 told in absurd (omega (arith, more.0, more.1, fresh))
+record_ok one w err calm (Err (stop.Range fault)) h s = absurd h
+record_ok one w err calm (Err (stop.NotALog at)) h s = absurd h
+record_ok one w err calm (Err (stop.Damaged at)) h s = absurd h
+record_ok one w err calm (Err stop.Deck) h s = absurd (calm.deck h.1)
+record_ok one w err calm (Err stop.Read) h s = absurd (no_record_read w err calm h)
+record_ok one w err calm (Err stop.Write) h s = absurd h
+record_ok one w err calm (Err stop.Memory) h s = inr refl
+
+record_design : OneAnswer → (w : World) (err : Count) → IsCalm w err → (wanted : ℕ) (result : Result (Unit {0}) Stop) → RecordAnswers w.inputs w.device result → RecordStands w.inputs w.device (Err (stop.NotYet part.Design wanted)) → IsWanted result (Err (stop.NotYet part.Design wanted))
+record_design one w err calm wanted (Ok done) h (source, told, refused) = absurd (asked_apart one w.inputs h.0 source wanted h.1 told refused)
+record_design one w err calm wanted (Err stop.Usage) h s = absurd h
+record_design one w err calm wanted (Err (stop.NotYet part.Design place)) h (source, told, refused) = inl (ap (λ p. Err (stop.NotYet part.Design p)) (one.place source place wanted (h source told) refused))
+record_design one w err calm wanted (Err (stop.NotYet part.Script line)) h (source, told, refused) = let has = h.0 source told in absurd (one.apart source has.0 wanted has.1 refused)
+record_design one w err calm wanted (Err (stop.NotYet part.Log at)) h (source, told, refused) = let has = h.0 source told in absurd (one.apart source has.0 wanted has.1 refused)
+record_design one w err calm wanted (Err (stop.Range fault)) h s = absurd h
+record_design one w err calm wanted (Err (stop.NotALog at)) h s = absurd h
+record_design one w err calm wanted (Err (stop.Damaged at)) h s = absurd h
+record_design one w err calm wanted (Err stop.Deck) h s = absurd (calm.deck h.1)
+record_design one w err calm wanted (Err stop.Read) h s = absurd (no_record_read w err calm h)
+record_design one w err calm wanted (Err stop.Write) h s = absurd h
+record_design one w err calm wanted (Err stop.Memory) h s = inr refl
+
+record_script : OneAnswer → (w : World) (err : Count) → IsCalm w err → (wanted : ℕ) (result : Result (Unit {0}) Stop) → RecordAnswers w.inputs w.device result → RecordStands w.inputs w.device (Err (stop.NotYet part.Script wanted)) → IsWanted result (Err (stop.NotYet part.Script wanted))
+record_script one w err calm wanted (Ok done) h (told, fresh, (d, text, design, read, is)) = absurd (unrecordable_not one design.0 d text wanted h.0.vectors design.2 is (asked_script one w.inputs h.0 d text design h.1 read) h.2.few)
+record_script one w err calm wanted (Err stop.Usage) h s = absurd h
+record_script one w err calm wanted (Err (stop.NotYet part.Design place)) h (told, fresh, (d, text, design, read, is)) = absurd (refused_not one w.inputs d place design h)
+record_script one w err calm wanted (Err (stop.NotYet part.Script line)) h (told, fresh, (d, text, design, read, is)) = inl (ap (λ l. Err (stop.NotYet part.Script l)) (one_unrecordable one design.0 d text line wanted design.2 (by_design one w.inputs d (λ e. IsUnrecordable e text line) design (λ source source_told. h.2 source source_told text read)) is))
+record_script one w err calm wanted (Err (stop.NotYet part.Log at)) h (told, fresh, (d, text, design, read, is)) = let more = h.1 told in absurd (omega (arith, more.0, more.1, fresh))
+record_script one w err calm wanted (Err (stop.Range fault)) h s = absurd h
+record_script one w err calm wanted (Err (stop.NotALog at)) h s = absurd h
+record_script one w err calm wanted (Err (stop.Damaged at)) h s = absurd h
+record_script one w err calm wanted (Err stop.Deck) h s = absurd (calm.deck h.1)
+record_script one w err calm wanted (Err stop.Read) h s = absurd (no_record_read w err calm h)
+record_script one w err calm wanted (Err stop.Write) h s = absurd h
+record_script one w err calm wanted (Err stop.Memory) h s = inr refl
+
+record_log : OneAnswer → (w : World) (err : Count) → IsCalm w err → (wanted : ℕ) (result : Result (Unit {0}) Stop) → RecordAnswers w.inputs w.device result → RecordStands w.inputs w.device (Err (stop.NotYet part.Log wanted)) → IsWanted result (Err (stop.NotYet part.Log wanted))
+record_log one w err calm wanted (Ok done) h (told, more, is, (d, design)) = let fresh = h.2.fresh told in absurd (omega (arith, fresh, more))
+record_log one w err calm wanted (Err stop.Usage) h s = absurd h
+record_log one w err calm wanted (Err (stop.NotYet part.Design place)) h (told, more, is, (d, design)) = absurd (refused_not one w.inputs d place design h)
+record_log one w err calm wanted (Err (stop.NotYet part.Script line)) h (told, more, is, (d, design)) = let fresh = h.1 told in absurd (omega (arith, fresh, more))
+record_log one w err calm wanted (Err (stop.NotYet part.Log at)) h (told, more, is, (d, design)) = inl (ap (λ l. Err (stop.NotYet part.Log l)) ((h.1 told).0 ∙ sym is))
+record_log one w err calm wanted (Err (stop.Range fault)) h s = absurd h
+record_log one w err calm wanted (Err (stop.NotALog at)) h s = absurd h
+record_log one w err calm wanted (Err (stop.Damaged at)) h s = absurd h
+record_log one w err calm wanted (Err stop.Deck) h s = absurd (calm.deck h.1)
+record_log one w err calm wanted (Err stop.Read) h (told, more, is, (d, design)) = absurd (no_record_read w err calm h)
+record_log one w err calm wanted (Err stop.Write) h s = absurd h
+record_log one w err calm wanted (Err stop.Memory) h s = inr refl
+
+window_ok : OneAnswer → Held → (w : World) (err : Count) → IsCalm w err → (window : span.Window) → (result : Result (Unit {0}) Stop) → WindowAnswers w.output w.device window result → WindowStands w.device window (Ok tt) → IsWanted result (Ok tt)
+window_ok one held w err calm window (Ok done) h s = inl refl
+window_ok one held w err calm window (Err stop.Usage) h s = absurd h
+window_ok one held w err calm window (Err (stop.NotYet part.Design place)) h s = absurd h
+window_ok one held w err calm window (Err (stop.NotYet part.Script line)) h s = absurd h
+window_ok one held w err calm window (Err (stop.NotYet part.Log at)) h (told, inside, (source, d, interval, vs, is, sound)) = absurd (sound_no_log one held w.device.before.bytes window at source d interval vs inside is sound (h told))
+window_ok one held w err calm window (Err (stop.Range fault)) h (told, inside, rest) = absurd (range_clash w.device.before.bytes window fault inside.range (h told).1)
+window_ok one held w err calm window (Err (stop.NotALog at)) h (told, inside, rest) = absurd (framed_clash w.device.before.bytes inside.plain.framed (h told).framed)
+window_ok one held w err calm window (Err (stop.Damaged at)) h (told, inside, (source, d, interval, vs, is, sound)) = absurd (sound_undamaged one held w.device.before.bytes at source d interval vs is sound (h told).1)
+window_ok one held w err calm window (Err stop.Deck) h s = absurd (calm.deck h)
+window_ok one held w err calm window (Err stop.Read) h s = absurd h
+window_ok one held w err calm window (Err stop.Write) h s = absurd (calm.out h.0)
+window_ok one held w err calm window (Err stop.Memory) h s = inr refl
+
+window_log : OneAnswer → Held → (w : World) (err : Count) → IsCalm w err → (window : span.Window) → (wanted : ℕ) (result : Result (Unit {0}) Stop) → WindowAnswers w.output w.device window result → WindowStands w.device window (Err (stop.NotYet part.Log wanted)) → IsWanted result (Err (stop.NotYet part.Log wanted))
+window_log one held w err calm window wanted (Ok done) h (told, stands) = absurd (log_not_ok one held w.device.before.bytes window wanted stands (h.0 told).0 (h.0 told).1)
+window_log one held w err calm window wanted (Err stop.Usage) h s = absurd h
+window_log one held w err calm window wanted (Err (stop.NotYet part.Design place)) h s = absurd h
+window_log one held w err calm window wanted (Err (stop.NotYet part.Script line)) h s = absurd h
+window_log one held w err calm window wanted (Err (stop.NotYet part.Log at)) h (told, stands) = inl (ap (λ l. Err (stop.NotYet part.Log l)) (one_log_place one held w.device.before.bytes window at wanted (h told) stands))
+window_log one held w err calm window wanted (Err (stop.Range fault)) h (told, stands) = absurd (log_not_range w.device.before.bytes window wanted fault stands (h told).0 (h told).1)
+window_log one held w err calm window wanted (Err (stop.NotALog at)) h (told, stands) = absurd (framed_clash w.device.before.bytes (log_framed w.device.before.bytes window wanted stands) (h told).framed)
+window_log one held w err calm window wanted (Err (stop.Damaged at)) h (told, stands) = absurd (log_undamaged one held w.device.before.bytes window wanted at stands (h told).0 (h told).1)
+window_log one held w err calm window wanted (Err stop.Deck) h s = absurd (calm.deck h)
+window_log one held w err calm window wanted (Err stop.Read) h s = absurd h
+window_log one held w err calm window wanted (Err stop.Write) h s = absurd (calm.out h.0)
+window_log one held w err calm window wanted (Err stop.Memory) h s = inr refl
+
+window_range : OneAnswer → Held → (w : World) (err : Count) → IsCalm w err → (window : span.Window) → (wanted : range.RangeFault) (result : Result (Unit {0}) Stop) → WindowAnswers w.output w.device window result → WindowStands w.device window (Err (stop.Range wanted)) → IsWanted result (Err (stop.Range wanted))
+window_range one held w err calm window wanted (Ok done) h (told, plain, refused) = absurd (range_clash w.device.before.bytes window wanted (h.0 told).0.range refused)
+window_range one held w err calm window wanted (Err stop.Usage) h s = absurd h
+window_range one held w err calm window wanted (Err (stop.NotYet part.Design place)) h s = absurd h
+window_range one held w err calm window wanted (Err (stop.NotYet part.Script line)) h s = absurd h
+window_range one held w err calm window wanted (Err (stop.NotYet part.Log at)) h (told, plain, refused) = absurd (log_not_range w.device.before.bytes window at wanted (h told) plain refused)
+window_range one held w err calm window wanted (Err (stop.Range fault)) h (told, plain, refused) = inl (ap (λ f. Err (stop.Range f)) (same_err _ (h told).1 refused))
+window_range one held w err calm window wanted (Err (stop.NotALog at)) h (told, plain, refused) = absurd (framed_clash w.device.before.bytes plain.framed (h told).framed)
+window_range one held w err calm window wanted (Err (stop.Damaged at)) h (told, plain, refused) = absurd (range_clash w.device.before.bytes window wanted (h told).0.range refused)
+window_range one held w err calm window wanted (Err stop.Deck) h s = absurd (calm.deck h)
+window_range one held w err calm window wanted (Err stop.Read) h s = absurd h
+window_range one held w err calm window wanted (Err stop.Write) h s = absurd (calm.out h.0)
+window_range one held w err calm window wanted (Err stop.Memory) h s = inr refl
+
+window_wrong : OneAnswer → Held → (w : World) (err : Count) → IsCalm w err → (window : span.Window) → (wanted : ℕ) (result : Result (Unit {0}) Stop) → WindowAnswers w.output w.device window result → WindowStands w.device window (Err (stop.NotALog wanted)) → IsWanted result (Err (stop.NotALog wanted))
+window_wrong one held w err calm window wanted (Ok done) h (told, wrong) = absurd (framed_clash w.device.before.bytes (h.0 told).0.plain.framed wrong.framed)
+window_wrong one held w err calm window wanted (Err stop.Usage) h s = absurd h
+window_wrong one held w err calm window wanted (Err (stop.NotYet part.Design place)) h s = absurd h
+window_wrong one held w err calm window wanted (Err (stop.NotYet part.Script line)) h s = absurd h
+window_wrong one held w err calm window wanted (Err (stop.NotYet part.Log at)) h (told, wrong) = absurd (framed_clash w.device.before.bytes (log_framed w.device.before.bytes window at (h told)) wrong.framed)
+window_wrong one held w err calm window wanted (Err (stop.Range fault)) h (told, wrong) = absurd (framed_clash w.device.before.bytes (h told).0.framed wrong.framed)
+window_wrong one held w err calm window wanted (Err (stop.NotALog at)) h (told, wrong) = inl (ap (λ l. Err (stop.NotALog l)) (sym (h told).gate_is ∙ wrong.gate_is))
+window_wrong one held w err calm window wanted (Err (stop.Damaged at)) h (told, wrong) = absurd (framed_clash w.device.before.bytes (h told).0.plain.framed wrong.framed)
+window_wrong one held w err calm window wanted (Err stop.Deck) h s = absurd (calm.deck h)
+window_wrong one held w err calm window wanted (Err stop.Read) h s = absurd h
+window_wrong one held w err calm window wanted (Err stop.Write) h s = absurd (calm.out h.0)
+window_wrong one held w err calm window wanted (Err stop.Memory) h s = inr refl
+
+dump_first : OneAnswer → (w : World) (err : Count) → IsCalm w err → (result wanted : Result (Unit {0}) Stop) → DumpAnswers w.inputs w.output result → DumpStands w.inputs wanted → IsWanted result wanted
+dump_first one w err calm result (Ok done) h s = dump_ok one w err calm result h s
+dump_first one w err calm result (Err stop.Usage) h s = absurd s
+dump_first one w err calm result (Err (stop.NotYet part.Design place)) h s = dump_design one w err calm place result h s
+dump_first one w err calm result (Err (stop.NotYet part.Script line)) h s = dump_script one w err calm line result h s
+dump_first one w err calm result (Err (stop.NotYet part.Log at)) h s = absurd s
+dump_first one w err calm result (Err (stop.Range fault)) h s = absurd s
+dump_first one w err calm result (Err (stop.NotALog at)) h s = absurd s
+dump_first one w err calm result (Err (stop.Damaged at)) h s = absurd s
+dump_first one w err calm result (Err stop.Deck) h s = absurd s
+dump_first one w err calm result (Err stop.Read) h s = absurd s
+dump_first one w err calm result (Err stop.Write) h s = absurd s
+dump_first one w err calm result (Err stop.Memory) h s = absurd s
+
+record_first : OneAnswer → (w : World) (err : Count) → IsCalm w err → (result wanted : Result (Unit {0}) Stop) → RecordAnswers w.inputs w.device result → RecordStands w.inputs w.device wanted → IsWanted result wanted
+record_first one w err calm result (Ok done) h s = record_ok one w err calm result h s
+record_first one w err calm result (Err stop.Usage) h s = absurd s
+record_first one w err calm result (Err (stop.NotYet part.Design place)) h s = record_design one w err calm place result h s
+record_first one w err calm result (Err (stop.NotYet part.Script line)) h s = record_script one w err calm line result h s
+record_first one w err calm result (Err (stop.NotYet part.Log at)) h s = record_log one w err calm at result h s
+record_first one w err calm result (Err (stop.Range fault)) h s = absurd s
+record_first one w err calm result (Err (stop.NotALog at)) h s = absurd s
+record_first one w err calm result (Err (stop.Damaged at)) h s = absurd s
+record_first one w err calm result (Err stop.Deck) h s = absurd s
+record_first one w err calm result (Err stop.Read) h s = absurd s
+record_first one w err calm result (Err stop.Write) h s = absurd s
+record_first one w err calm result (Err stop.Memory) h s = absurd s
+
+window_first : OneAnswer → Held → (w : World) (err : Count) → IsCalm w err → (window : span.Window) → (result wanted : Result (Unit {0}) Stop) → WindowAnswers w.output w.device window result → WindowStands w.device window wanted → IsWanted result wanted
+window_first one held w err calm window result (Ok done) h s = window_ok one held w err calm window result h s
+window_first one held w err calm window result (Err stop.Usage) h s = absurd s
+window_first one held w err calm window result (Err (stop.NotYet part.Design place)) h s = absurd s
+window_first one held w err calm window result (Err (stop.NotYet part.Script line)) h s = absurd s
+window_first one held w err calm window result (Err (stop.NotYet part.Log at)) h s = window_log one held w err calm window at result h s
+window_first one held w err calm window result (Err (stop.Range fault)) h s = window_range one held w err calm window fault result h s
+window_first one held w err calm window result (Err (stop.NotALog at)) h s = window_wrong one held w err calm window at result h s
+window_first one held w err calm window result (Err (stop.Damaged at)) h s = absurd s
+window_first one held w err calm window result (Err stop.Deck) h s = absurd s
+window_first one held w err calm window result (Err stop.Read) h s = absurd s
+window_first one held w err calm window result (Err stop.Write) h s = absurd s
+window_first one held w err calm window result (Err stop.Memory) h s = absurd s
+
+command_first : OneAnswer → Held → (w : World) (err : Count) → IsCalm w err → (c : Command) (result wanted : Result (Unit {0}) Stop) → CommandAnswers w c result → Stands w c wanted → IsWanted result wanted
+command_first one held w err calm command.Record result wanted h s = record_first one w err calm result wanted h s
+command_first one held w err calm (command.Window window) result wanted h s = window_first one held w err calm window result wanted h s
+command_first one held w err calm command.Dump result wanted h s = dump_first one w err calm result wanted h s
+
+-- where no count rose, an answer is reported by its status
+calm_report : (result : Result (Unit {0}) Stop) (err : Count) (answer : Status) → IsReported result err answer → (IsRisen err → ⊥) → answer ≡ status_for result
+calm_report result err answer (inl e) calm = e
+calm_report result err answer (inr f) calm = absurd (calm f.1)
+
+-- words that are no command are refused as such
+no_command : (w : World) (result : Result (Unit {0}) Stop) → Answers w result → HasNoCommand w → result ≡ Err stop.Usage
+no_command w result (inl h) none = h.1
+no_command w result (inr (c, is, h)) none = absurd (none c is)
+
+answers_command : (w : World) (result : Result (Unit {0}) Stop) (c : Command) → IsCommand w.words c → Answers w result → CommandAnswers w c result
+answers_command w result c is (inl h) = absurd (h.0 c is)
+answers_command w result c is (inr (e, other, h)) = subst (λ v. CommandAnswers w v result) (one_command w.words e c other is) h
+
+wanted_status : (answer : Status) (result wanted : Result (Unit {0}) Stop) → answer ≡ status_for result → IsWanted result wanted → (answer ≡ status_for wanted) ⊎ (answer ≡ status.OutOfMemory)
+wanted_status answer result wanted e (inl same) = inl (e ∙ ap status_for same)
+wanted_status answer result wanted e (inr same) = inr (e ∙ ap status_for same)
+
+pub answered : OneAnswer → Held → (w : World) (err : Count) (result : Result (Unit {0}) Stop) (answer : Status) → Answers w result → IsReported result err answer → IsAnswered w err answer
+answered one held w err result answer h r = record {
+  caused = record { result = result; answers = h; reported = r };
   complete = record {
-    usage = λ none calm. absurd (none h.0);
-    design = λ calm command source place told no_source. let at = h.1 source told in absurd (one.apart source at.0 place at.1 no_source);
-    script = λ calm command source text d line told read is no_script.
-        let at = h.2 source told text read in
-        let same : at.0.design ≡ d = one.design source at.0.design d at.1.design is in
-        absurd (one.unread source d text line at.0.vectors is no_script (subst (λ v. script.IsScript v text at.0.vectors) same at.1.vectors));
-    ok = λ calm command source text q told read asks. inl refl;
+    usage = λ none calm. calm_report result err answer r calm ∙ ap status_for (no_command w result h none);
+    stands = λ calm c is wanted s. wanted_status answer result wanted (calm_report result err answer r calm.errors) (command_first one held w err calm c result wanted (answers_command w result c is h) s);
   };
-  write_prefix = λ e. cc;
-  memory_prefix = λ e. cc;
 }
+
+-- the line of a stop is that of its status
+line_status : (s : Stop) → status_line (status_of s) ≡ line_of s
+line_status stop.Usage = refl
+line_status (stop.NotYet p place) = refl
+line_status (stop.Range ranges.Backwards) = refl
+line_status (stop.Range ranges.NothingHeld) = refl
+line_status (stop.Range ranges.NeverKnown) = refl
+line_status (stop.Range (ranges.TooEarly time)) = refl
+line_status (stop.Range (ranges.PastEnd time)) = refl
+line_status (stop.NotALog at) = refl
+line_status (stop.Damaged at) = refl
+line_status stop.Deck = refl
+line_status stop.Read = refl
+line_status stop.Write = refl
+line_status stop.Memory = refl
+
+pub said : (s : Stop) (answer : Status) (before after : Option (List ℕ)) → Reports s answer before after → IsSaid answer before after
+said s answer before after (inl (e, took)) = record {
+  line = λ other. took ∙ ap (appended before) (sym (line_status s) ∙ ap status_line (sym e));
+  part = λ write. (s, [], record { done = line_of s; whole = append-nil (line_of s); taken = took });
+}
+said s answer before after (inr (e, (rest, puts))) = record {
+  line = λ other. absurd (other e);
+  part = λ write. (s, rest, puts);
+}
+
+-- what was written with a stop may have been written with its status
+pub may_write : (s : Stop) (err : Count) (answer : Status) → IsReported (Err s) err answer → Writes (Err s) → MayWrite answer
+may_write s err answer (inr f) w = inr (inl f.0)
+may_write s err answer (inl e) (inl w) = let clash : Err s ≡ Ok tt = w in cc
+may_write s err answer (inl e) (inr (inl w)) = inr (inl (e ∙ ap status_for w))
+may_write s err answer (inl e) (inr (inr w)) = inr (inr (e ∙ ap status_for w))

@@ -1,8 +1,7 @@
-pub mod StepsLaws
-pub mod WindowLaws
-pub mod RequestLaws
-pub mod CommandLaws
-pub mod SourceLaws
 pub mod PhaseLaws
+pub mod SourceLaws
+pub mod CommandLaws
 pub mod AnswerLaws
+pub mod RecordLaws
+pub mod WindowLaws
 pub mod CausedLaws

@@ -1,5 +1,5 @@
 -- What was read of a source, and its faults as those of a phase.
-use Rattle.std.proofs.Common.{◌≡◌, ℕ, ◌<◌, ◌≤◌, ◌^◌, List, length, take, nat_lt, Bool, true, false, Option, Some, Result, Err, refl, sym, ap, subst, ◌∙◌, inl, arith, take_all, IfErr}
+use Rattle.std.proofs.Common.{◌≡◌, ℕ, ◌<◌, ◌≤◌, ◌^◌, List, length, take, nat_lt, Bool, true, false, Option, Some, Result, Err, refl, sym, ap, subst, ◌∙◌, inl, inr, min, arith, take_all, IfErr}
 use Rattle.std.proofs.lemmas.Bool.Decides.{nat_tests}
 use Rattle.vod_io.specs.Told.{Told, Tells}
 use Rattle.vod_design.specs.Netlist.{Netlist}
@@ -12,9 +12,10 @@ use Rattle.vod_thin_script.specs.declared.ScriptFault.TheVariants as scripts
 use Rattle.vod_thin_script.specs.Fault as script_faults
 use Rattle.vod_thin_script.specs.Script.{IsScript, IsRefused}
 use Rattle.vod.specs.declared.phase.PhaseFault.{PhaseFault}
-use Rattle.vod.specs.declared.phase.PhaseFault.TheVariants.{Refused}
-use Rattle.vod.specs.Sources.{IsSource, IsRefusedSource}
-use Rattle.vod.specs.Phases.{thin_fault, script_fault, Refuses}
+use Rattle.vod.specs.declared.phase.PhaseFault.TheVariants.{Read, Refused, Memory}
+use Rattle.vod_design.specs.declared.thin.Vector.{Vector}
+use Rattle.vod.specs.Sources.{IsSource, IsRefusedSource, IsOtherSource, IsUnrecordable}
+use Rattle.vod.specs.Phases.{thin_fault, script_fault, fault_within, Refuses}
 
 pub lt_true : (a b : ℕ) → a < b → nat_lt a b ≡ true
 lt_true a b h = grind (arith, nat_tests, h)
@@ -61,3 +62,24 @@ design_refused more bytes left thins.Memory front is fault = tt
 -- the fault that a phase hands on
 pub handed : {T : Type 0} (r : Result T PhaseFault) (x f : PhaseFault) (P : ℕ → Type 0) → r ≡ Err x → x ≡ f → Refuses f P → IfErr r (λ fault. Refuses fault P)
 handed r x f P a b h = subst (λ s. IfErr s (λ fault. Refuses fault P)) (sym (a ∙ ap (λ v. Err v) b)) h
+
+-- a script that is refused isn't recorded
+pub within_refused : (d : Netlist) (left : Option (List ℕ)) (f : PhaseFault) → Refuses f (λ line. Tells left (λ text. IsRefused d text line)) → Refuses (fault_within f 4096) (λ line. Tells left (λ text. IsUnrecordable d text line))
+within_refused d left Read h = tt
+within_refused d left (Refused line) h = λ text e. inl (line, h text e, refl)
+within_refused d left Memory h = tt
+
+-- more vectors than are recorded
+pub many_refused : (d : Netlist) (left : Option (List ℕ)) (vs : List Vector) → Tells left (λ text. IsScript d text vs) → 4095 < length vs → Tells left (λ text. IsUnrecordable d text 4096)
+many_refused d left vs reads many text e = inr (vs, reads text e, omega (arith, many), refl)
+
+-- a held source that is refused is none of the thin form
+pub held_refused : (source : List ℕ) (f : thin.ThinFault) → length source ≤ 2 ^ 20 → thin_faults.IsFault source false f → Refuses (fault_within (thin_fault f) 0) (λ at. (at ≡ 0) × IsOtherSource source)
+held_refused source (thins.At place) short fault = (
+  omega arith,
+  inr (
+    place,
+    subst (λ m. form.IsRefused (take (2 ^ 20) source) m place) (sym (lt_false (2 ^ 20) (length source) short)) (subst (λ s. form.IsRefused s false place) (sym (take_all (2 ^ 20) source short)) fault),
+  ),
+)
+held_refused source thins.Memory short fault = tt

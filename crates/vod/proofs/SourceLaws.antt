@@ -14,6 +14,7 @@ pub record OneAnswer : Type 0 where
   pub place : (source : List ℕ) (p q : ℕ) → IsRefusedSource source p → IsRefusedSource source q → p ≡ q
   pub apart : (source : List ℕ) (d : Netlist) (p : ℕ) → IsSource source d → IsRefusedSource source p → ⊥
   pub line : (source : List ℕ) (d : Netlist) (text : List ℕ) (k l : ℕ) → IsSource source d → script.IsRefused d text k → script.IsRefused d text l → k ≡ l
+  pub reading : (source : List ℕ) (d : Netlist) (text : List ℕ) (vs ws : List Vector) → IsSource source d → script.IsScript d text vs → script.IsScript d text ws → vs ≡ ws
   pub unread : (source : List ℕ) (d : Netlist) (text : List ℕ) (k : ℕ) (vs : List Vector) → IsSource source d → script.IsRefused d text k → script.IsScript d text vs → ⊥
 
 -- the laws of the two readers
@@ -40,11 +41,15 @@ whole : (source : List ℕ) (d : Netlist) (p : ℕ) → IsSource source d → Is
 whole source d p is refused =
     subst (λ s. thin.IsRefused s false p) (take_all (2 ^ 20) source is.short) (subst (λ m. thin.IsRefused (take (2 ^ 20) source) m p) (lt_false (2 ^ 20) (length source) is.short) refused)
 
-pub one_answer : OneDesign → OnePlace → ThinApart → PlainNames → OneLine → Unread → OneAnswer
-one_answer designs places apart plain lines unread = record {
+abbrev pub OneReading : Type 0
+OneReading = (d : Netlist) → HasPlainNames d → (bytes : List ℕ) (vs ws : List Vector) → script.IsScript d bytes vs → script.IsScript d bytes ws → vs ≡ ws
+
+pub one_answer : OneDesign → OnePlace → ThinApart → PlainNames → OneReading → OneLine → Unread → OneAnswer
+one_answer designs places apart plain readings lines unread = record {
   design = λ source d e a b. designs source d e a.thin b.thin;
   place = λ source p q. places (take (2 ^ 20) source) (nat_lt (2 ^ 20) (length source)) p q;
   apart = λ source d p is refused. apart source d p is.thin (whole source d p is refused);
   line = λ source d text k l is. lines d (plain source d is.short is.thin) text k l;
+  reading = λ source d text vs ws is. readings d (plain source d is.short is.thin) text vs ws;
   unread = λ source d text k vs is. unread d (plain source d is.short is.thin) text k vs;
 }

@@ -1,141 +1,98 @@
--- The window of a run, slot by slot.
-use Rattle.std.proofs.Common.{◌≡◌, ℕ, suc, ◌<◌, ◌≤◌, List, [], ◌∷◌, ◌++◌, Bool, true, false, cond, nat_le, Option, Result, IsErr, All, refl, sym, ap, subst, ◌∙◌, arith, append_assoc}
-use Rattle.std.proofs.lemmas.Bool.{le-leb, leb-true}
+-- Each answer of `window`, from what its steps say.
+use Rattle.std.proofs.Common.{◌≡◌, ℕ, ◌<◌, ◌≤◌, ◌⊎◌, ◌==◌, List, [], ◌∷◌, ◌++◌, length, Bool, true, false, nat_le, nat_lt, Option, None, Some, Err, All, refl, sym, ap, subst, ◌∙◌, inl, inr, arith, cond}
+use Rattle.std.proofs.lemmas.List.Elements.{All-head}
 use Rattle.vod_design.specs.declared.thin.Vector.{Vector}
-use Rattle.vod_design.specs.Netlist.{Netlist}
-use Rattle.vod_queue.specs.State.{State}
-use Rattle.vod_queue.specs.Run.{IsSlot, AreSlots}
-use Rattle.vod_vcd.specs.Text.{opening_text}
-use Rattle.vod_vcd.specs.Dump.{closing_text}
-use Rattle.vod_vcd.specs.Stream.{slot_text, printed_after, window_text, rest_text}
-use Rattle.vod_io.specs.Told.{appended, Puts, Written}
-use Rattle.vod_io.proofs.Puts.{appended-nothing, appended-appended, Written-then, Written-stopped, stopped_in_first, stopped_in_second}
-use Rattle.vod.specs.Moments.{moments}
-use Rattle.vod.specs.Progress.{IsOver, Passes, Skips, Follows}
+use Rattle.vod_design.specs.Netlist.{Netlist, IsAccepted}
+use Rattle.vod_design.specs.Vectors.{IsLawful, times}
+use Rattle.vod_log.specs.Format.{Entry, committed}
+use Rattle.vod_thin_code.specs.Bytes.{IsHead}
+use Rattle.vod_thin_code.specs.Held.{IsHeld, IsSound}
+use Rattle.vod_thin_replay.specs.Replay.{HoldsSource, IsHeadDamagedAt, IsDamagedAt, IsHeldUpTo, OnDamaged}
+use Rattle.vod_thin_replay.specs.declared.ReplayFault.{ReplayFault}
+use Rattle.vod_thin_replay.specs.declared.ReplayFault.TheVariants as replay
+use Rattle.vod_thin_window.specs.declared.window.Window as span
+use Rattle.vod_thin_window.specs.declared.window.WindowFault.{WindowFault}
+use Rattle.vod_thin_window.specs.declared.window.WindowFault.TheVariants as fault
+use Rattle.vod_thin_window.specs.Progress.{IsOver}
+use Rattle.vod_thin_window.specs.Request.{Request, behind, window_of, IsWritten, IsBegun}
+use Rattle.vod.specs.declared.phase.PhaseFault.{PhaseFault}
+use Rattle.vod.specs.declared.phase.PhaseFault.TheVariants.{Read, Refused, Memory}
+use Rattle.vod.specs.declared.status.Part.TheVariants as part
+use Rattle.vod.specs.Sources.{IsSource, IsOtherSource}
+use Rattle.vod.specs.Phases.{stop_of, window_stop, replay_stop, Refuses}
+use Rattle.vod.specs.Answer.{Output, Device, IsRisen, IsDeckRisen, IsInside, HoldsThin, HoldsOther, IsDamaged, OnSound, WindowAnswers}
+use Rattle.vod.proofs.AnswerLaws.{request}
 
-lt-leb-false : (a b : ℕ) → b < a → nat_le a b ≡ false
-lt-leb-false a b h = by_test (nat_le a b) refl
-  where
-    by_test : (v : Bool) → nat_le a b ≡ v → nat_le a b ≡ false
-    by_test true e = let le = leb-true a b e in absurd (omega arith)
-    by_test false e = e
+-- the head's source isn't read
+pub no_source : (out : Output) (deck : Device) (window : span.Window) (f : ReplayFault) → (deck.told → IsInside deck.before.bytes window) → (f ≡ replay.Deck → IsDeckRisen deck) →
+    OnDamaged f (λ at. deck.told → IsHeadDamagedAt deck.before.bytes at) → out.after ≡ out.before → WindowAnswers out deck window (Err (replay_stop f))
+no_source out deck window replay.Deck inside rose wrong same = rose refl
+no_source out deck window (replay.Damaged at) inside rose wrong same = λ told. (inside told, inl (wrong told))
+no_source out deck window replay.Memory inside rose wrong same = inl same
 
-pub passes_start : (d : Netlist) (s : State) (vectors : List Vector) (from : ℕ) → Passes d s vectors from s vectors
-passes_start d s vectors from = record { passes = λ ends h. (ends, h, λ to. refl) }
+-- the held source isn't of the thin form
+pub no_form : (out : Output) (deck : Device) (window : span.Window) (source : List ℕ) (f : PhaseFault) → (deck.told → IsInside deck.before.bytes window) → (deck.told → HoldsSource deck.before.bytes source) → (f ≡ Read → ⊥) →
+    Refuses f (λ at. (at ≡ 0) × IsOtherSource source) → out.after ≡ out.before → WindowAnswers out deck window (Err (stop_of f part.Log))
+no_form out deck window source Read inside has read refused same = absurd (read refl)
+no_form out deck window source (Refused at) inside has read refused same = λ told. inr (inside told, record { source = source; has_source = has told; other = refused.1 }, refused.0)
+no_form out deck window source Memory inside has read refused same = inl same
 
--- slots of a vector and others are a slot and others
-pub record Splits (d : Netlist) (s : State) (v : Vector) (rest : List Vector) (ends : List State) : Type 0 where
-  pub end : State
-  pub more : List State
-  pub whole : ends ≡ end ∷ more
-  pub slot : IsSlot d s v.moves end
-  pub slots : AreSlots d end rest more
+-- the vectors aren't read
+pub no_vectors : (out : Output) (deck : Device) (window : span.Window) (source : List ℕ) (d : Netlist) (f : ReplayFault) → (deck.told → IsInside deck.before.bytes window) → (deck.told → HoldsSource deck.before.bytes source) → IsSource source d → IsAccepted d →
+    (f ≡ replay.Deck → IsDeckRisen deck) → OnDamaged f (λ at. deck.told → IsDamagedAt d deck.before.bytes at) → out.after ≡ out.before → WindowAnswers out deck window (Err (replay_stop f))
+no_vectors out deck window source d replay.Deck inside has is accepted rose wrong same = rose refl
+no_vectors out deck window source d (replay.Damaged at) inside has is accepted rose wrong same = λ told. (inside told, inr (source, d, has told, is, accepted, wrong told))
+no_vectors out deck window source d replay.Memory inside has is accepted rose wrong same = inl same
 
-pub splits : (d : Netlist) (s : State) (v : Vector) (rest : List Vector) (ends : List State) → AreSlots d s (v ∷ rest) ends → Splits d s v rest ends
-splits d s v rest [] h = absurd h
-splits d s v rest (end ∷ more) h = record { end = end; more = more; whole = refl; slot = h.0; slots = h.1 }
+-- the laws that make of what is read what is held
+pub record Laws : Type 0 where
+  pub one_head : (payload : List ℕ) (i j : ℕ) (source other : List ℕ) → IsHead payload i source → IsHead payload j other → (i ≡ j) × (source ≡ other)
+  pub one_design : (source : List ℕ) (d e : Netlist) → IsSource source d → IsSource source e → d ≡ e
 
--- a slot not past the time
-passes_more_cons : (d : Netlist) (s t u : State) (vectors : List Vector) (from : ℕ) (v : Vector) (rest : List Vector) →
-    Passes d s vectors from t (v ∷ rest) → v.time ≤ from → ((e : State) → IsSlot d t v.moves e → e ≡ u) → Passes d s vectors from u rest
-passes_more_cons d s t u vectors from v rest passes early only = record {
-  passes = λ ends h.
-      let at = passes.passes ends h in
-      let split = splits d t v rest at.0 at.1 in
-      let same : split.end ≡ u = only split.end split.slot in
-      let test : nat_le v.time from ≡ true = le-leb v.time from early in
-      let text : (to : ℕ) → window_text t.val (moments (v ∷ rest) at.0) from to ≡ window_text u.val (moments rest split.more) from to =
-      λ to. ap (λ w. window_text t.val (moments (v ∷ rest) w) from to) split.whole
-      ∙ ap (λ b. cond b (window_text split.end.val (moments rest split.more) from to) (opening_text from t.val ++ rest_text t.val from (moments (v ∷ rest) (split.end ∷ split.more)) to)) test
-      ∙ ap (λ e. window_text e.val (moments rest split.more) from to) same in
-      (split.more, subst (λ e. AreSlots d e rest split.more) same split.slots, λ to. at.2 to ∙ text to);
-}
+first_of : List Entry → List ℕ
+first_of [] = []
+first_of (e ∷ es) = e.payload
 
--- the front of what is left is a slot not past the time
-pub passes_more : (d : Netlist) (s t u : State) (vectors : List Vector) (from : ℕ) (v : Vector) (rest behind : List Vector) →
-    Passes d s vectors from t rest → rest ≡ v ∷ behind → v.time ≤ from → ((e : State) → IsSlot d t v.moves e → e ≡ u) → Passes d s vectors from u behind
-passes_more d s t u vectors from v rest behind passes whole early only =
-    passes_more_cons d s t u vectors from v behind (subst (λ r. Passes d s vectors from t r) whole passes) early only
+-- the source that was read is the one that is held
+-- a log holds one source at most
+pub one_source : Laws → (bytes source other : List ℕ) → HoldsSource bytes source → HoldsSource bytes other → source ≡ other
+unfolding first_of
+one_source laws bytes source other a b =
+    let payloads : a.head.payload ≡ b.head.payload = ap first_of (sym a.entries ∙ b.entries) in
+    (laws.one_head b.head.payload a.interval b.interval source other (subst (λ p. IsHead p a.interval source) payloads a.is_head) b.is_head).1
 
--- no vector is left up to the time: the window opens
-pub passes_over : (d : Netlist) (s t : State) (vectors : List Vector) (from : ℕ) (rest : List Vector) →
-    Passes d s vectors from t rest → IsOver rest from → Skips d s vectors from t rest
-passes_over d s t vectors from [] passes over = record { skips = λ ends h. let at = passes.passes ends h in (at.0, at.1, at.2) }
-passes_over d s t vectors from (v ∷ behind) passes over = record { skips = skips }
-  where
-    skips : (ends : List State) → AreSlots d s vectors ends → (more : List State) × AreSlots d t (v ∷ behind) more × ((to : ℕ) → window_text s.val (moments vectors ends) from to ≡ opening_text from t.val ++ rest_text t.val from (moments (v ∷ behind) more) to)
-    skips ends h =
-        let at = passes.passes ends h in
-        let split = splits d t v behind at.0 at.1 in
-        let test : nat_le v.time from ≡ false = lt-leb-false v.time from (over v behind refl) in
-        let opens : (to : ℕ) → window_text t.val (moments (v ∷ behind) at.0) from to ≡ opening_text from t.val ++ rest_text t.val from (moments (v ∷ behind) at.0) to =
-        λ to. ap (λ w. window_text t.val (moments (v ∷ behind) w) from to) split.whole
-        ∙ ap (λ b. cond b (window_text split.end.val (moments behind split.more) from to) (opening_text from t.val ++ rest_text t.val from (moments (v ∷ behind) (split.end ∷ split.more)) to)) test
-        ∙ ap (λ w. opening_text from t.val ++ rest_text t.val from (moments (v ∷ behind) w) to) (sym split.whole) in
-        (at.0, at.1, λ to. at.2 to ∙ opens to)
+-- a head that is read isn't wrong
+pub some_source : (bytes source : List ℕ) (at : ℕ) → HoldsSource bytes source → IsHeadDamagedAt bytes at → ⊥
+unfolding first_of
+some_source bytes source at has (inl none) = let clash : has.head ∷ has.batches ≡ [] = sym has.entries ∙ none.0 in cc
+some_source bytes source at has (inr none) =
+    let payloads : has.head.payload ≡ none.head.payload = ap first_of (sym has.entries ∙ none.entries) in
+    none.no_head has.interval source (subst (λ p. IsHead p has.interval source) payloads has.is_head)
 
-pub follows_start : (d : Netlist) (s : State) (printed : ℕ) (vectors : List Vector) (to : ℕ) (before : Option (List ℕ)) → Follows d s printed vectors to before s printed vectors before
-follows_start d s printed vectors to before = record { follows = λ ends h. (ends, [], h, sym (appended-nothing before), refl) }
+pub same_source : Laws → (bytes source other : List ℕ) (d : Netlist) (interval : ℕ) (vs : List Vector) → HoldsSource bytes source → IsHeld d other interval vs bytes → source ≡ other
+unfolding first_of
+same_source laws bytes source other d interval vs has held =
+    let payloads : has.head.payload ≡ held.head.payload = ap first_of (sym has.entries ∙ held.entries) in
+    (laws.one_head held.head.payload has.interval interval source other (subst (λ p. IsHead p has.interval source) payloads has.is_head) held.is_head).1
 
--- what is left where a slot isn't past the time is its text and what is left behind it
-slot_left : (d : Netlist) (t u : State) (last to : ℕ) (v : Vector) (behind : List Vector) (ends : List State) → AreSlots d t (v ∷ behind) ends → v.time ≤ to → ((e : State) → IsSlot d t v.moves e → e ≡ u) →
-    (more : List State) × AreSlots d u behind more
-    × (rest_text t.val last (moments (v ∷ behind) ends) to ≡ slot_text t.val v.time u.val ++ rest_text u.val (printed_after t.val last v.time u.val) (moments behind more) to)
-slot_left d t u last to v behind ends h early only =
-    let split = splits d t v behind ends h in
-    let same : split.end ≡ u = only split.end split.slot in
-    let test : nat_le v.time to ≡ true = le-leb v.time to early in
-    let text : rest_text t.val last (moments (v ∷ behind) ends) to ≡ slot_text t.val v.time u.val ++ rest_text u.val (printed_after t.val last v.time u.val) (moments behind split.more) to =
-    ap (λ w. rest_text t.val last (moments (v ∷ behind) w) to) split.whole
-    ∙ ap (λ b. cond b (slot_text t.val v.time split.end.val ++ rest_text split.end.val (printed_after t.val last v.time split.end.val) (moments behind split.more) to) (closing_text last to)) test
-    ∙ ap (λ e. slot_text t.val v.time e.val ++ rest_text e.val (printed_after t.val last v.time e.val) (moments behind split.more) to) same in
-    (split.more, subst (λ e. AreSlots d e behind split.more) same split.slots, text)
+-- times past an end are those of vectors past it
+none_due : (rest : List Vector) (to : ℕ) → All (λ t. to < t) (times rest) → IsOver rest to
+none_due rest to past v more e = All-head (λ t. to < t) v.time (times more) (subst (λ vs. All (λ t. to < t) (times vs)) e past)
 
--- a slot not past the time, whose text was taken
-pub follows_more : (d : Netlist) (s t u : State) (printed to last : ℕ) (vectors : List Vector) (before mid now : Option (List ℕ)) (v : Vector) (rest behind : List Vector) →
-    Follows d s printed vectors to before t last rest mid → rest ≡ v ∷ behind → v.time ≤ to → ((e : State) → IsSlot d t v.moves e → e ≡ u) →
-    now ≡ appended mid (slot_text t.val v.time u.val) → Follows d s printed vectors to before u (printed_after t.val last v.time u.val) behind now
-follows_more d s t u printed to last vectors before mid now v rest behind follows whole early only taken = record { follows = more }
-  where
-    more : (ends : List State) → AreSlots d s vectors ends → (more : List State) × (done : List ℕ) × AreSlots d u behind more × (now ≡ appended before done) × (rest_text s.val printed (moments vectors ends) to ≡ done ++ rest_text u.val (printed_after t.val last v.time u.val) (moments behind more) to)
-    more ends h =
-        let at = (subst (λ r. Follows d s printed vectors to before t last r mid) whole follows).follows ends h in
-        let left = slot_left d t u last to v behind at.0 at.2 early only in
-        let piece = slot_text t.val v.time u.val in (
-          left.0,
-          at.1 ++ piece,
-          left.1,
-          taken ∙ ap (λ w. appended w piece) at.3 ∙ appended-appended before at.1 piece,
-          at.4 ∙ ap (λ w. at.1 ++ w) left.2 ∙ sym (append_assoc at.1 piece (rest_text u.val (printed_after t.val last v.time u.val) (moments behind left.0) to)),
-        )
+-- a text of the window of what was read is one of the window of a sound log
+pub on_sound : Laws → (P : Request → Type 0) (deck : Device) (source : List ℕ) (d : Netlist) (us : List Vector) (to : ℕ) → (deck.told → HoldsSource deck.before.bytes source) → IsSource source d → (deck.told → IsHeldUpTo d deck.before.bytes to us) →
+    ((rest : List Vector) → IsLawful d (us ++ rest) → IsOver rest to → P (behind (request source d us) rest)) → OnSound deck P
+on_sound laws P deck source d us to has is reads holds told other e interval vs is_other sound =
+    let sources : source ≡ other = same_source laws deck.before.bytes source other e interval vs (has told) sound.held in
+    let designs : d ≡ e = laws.one_design other d e (subst (λ s. IsSource s d) sources is) is_other in
+    let held : IsHeld d source interval vs deck.before.bytes = subst (λ s. IsHeld d s interval vs deck.before.bytes) (sym sources) (subst (λ n. IsHeld n other interval vs deck.before.bytes) (sym designs) sound.held) in
+    let before : IsLawful d vs = subst (λ n. IsLawful n vs) (sym designs) sound.lawful in
+    let (rest, all, past) = reads told source interval vs held in
+    let lawful : IsLawful d (us ++ rest) = subst (λ ws. IsLawful d ws) all before in
+    subst (λ s. P (request s e vs)) sources (subst (λ n. P (request source n vs)) designs (subst (λ ws. P (request source d ws)) (sym all) (holds rest lawful (none_due rest to (past before)))))
 
--- what is left where no vector is left up to the time is the close
-over_text : (d : Netlist) (t : State) (last to : ℕ) (rest : List Vector) (more : List State) → AreSlots d t rest more → IsOver rest to → rest_text t.val last (moments rest more) to ≡ closing_text last to
-over_text d t last to [] more h over = refl
-over_text d t last to (v ∷ behind) [] h over = absurd h
-over_text d t last to (v ∷ behind) (e ∷ es) h over =
-    ap (λ b. cond b (slot_text t.val v.time e.val ++ rest_text e.val (printed_after t.val last v.time e.val) (moments behind es) to) (closing_text last to)) (lt-leb-false v.time to (over v behind refl))
-
--- the close was written, or a part of it
-pub follows_close : {T E : Type 0} (result : Result T E) (d : Netlist) (s t : State) (printed to last : ℕ) (vectors : List Vector) (before mid now : Option (List ℕ)) (rest : List Vector) →
-    Follows d s printed vectors to before t last rest mid → IsOver rest to → Written result mid now (closing_text last to) →
-    (ends : List State) → AreSlots d s vectors ends → Written result before now (rest_text s.val printed (moments vectors ends) to)
-follows_close result d s t printed to last vectors before mid now rest follows over written ends h =
-    let at = follows.follows ends h in
-    let text = at.4 ∙ ap (λ w. at.1 ++ w) (over_text d t last to rest at.0 at.2 over) in
-    subst (λ w. Written result before now w) (sym text) (Written-then before mid now at.1 (closing_text last to) result at.3 written)
-
--- a slot was written in part
-pub follows_stops : {T E : Type 0} (result : Result T E) (d : Netlist) (s t u : State) (printed to last : ℕ) (vectors : List Vector) (before mid now : Option (List ℕ)) (v : Vector) (rest behind : List Vector) →
-    Follows d s printed vectors to before t last rest mid → rest ≡ v ∷ behind → v.time ≤ to → ((e : State) → IsSlot d t v.moves e → e ≡ u) →
-    IsErr result → ((left : List ℕ) × Puts mid now (slot_text t.val v.time u.val) left) →
-    (ends : List State) → AreSlots d s vectors ends → Written result before now (rest_text s.val printed (moments vectors ends) to)
-follows_stops result d s t u printed to last vectors before mid now v rest behind follows whole early only failed part ends h =
-    let at = (subst (λ r. Follows d s printed vectors to before t last r mid) whole follows).follows ends h in
-    let left = slot_left d t u last to v behind at.0 at.2 early only in
-    let piece = slot_text t.val v.time u.val in
-    let behind_text = rest_text u.val (printed_after t.val last v.time u.val) (moments behind left.0) to in
-    let text = at.4 ∙ ap (λ w. at.1 ++ w) left.2 in
-    subst (λ w. Written result before now w) (sym text)
-    (Written-stopped before now (at.1 ++ (piece ++ behind_text)) result failed
-    (stopped_in_second before mid now at.1 (piece ++ behind_text) at.3 (stopped_in_first mid now piece behind_text part)))
+-- the window isn't written whole
+pub no_window : (out : Output) (deck : Device) (window : span.Window) (f : WindowFault) → (deck.told → IsInside deck.before.bytes window × HoldsThin deck.before.bytes) → (f ≡ fault.Write → IsRisen out.faults) →
+    OnSound deck (λ r. IsBegun r (window_of r window.from window.to) out.before out.after) → WindowAnswers out deck window (Err (window_stop f))
+no_window out deck window fault.Write inside write begun = (write refl, inside, begun)
+no_window out deck window fault.Memory inside write begun = inr begun

@@ -1,9 +1,7 @@
-pub mod Moments
 pub mod Command
 pub mod Sources
-pub mod Request
-pub mod Progress
 pub mod Phases
 pub mod Ends
 pub mod Answer
+pub mod Quiet
 pub mod Caused

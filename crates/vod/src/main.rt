@@ -4,8 +4,9 @@
 mod command;
 mod dump;
 mod phase;
-mod run;
+mod record;
 mod status;
+mod stops;
 #[cfg(test)]
 mod tests;
 mod top;
@@ -16,6 +17,7 @@ use crate::top::vod;
 use std::alloc::{AllocError, Global};
 use std::process::ExitCode;
 use std::{env, io};
+use vod_deck::FileDeck;
 use vod_io::{FileSource, StdSink, StdSource};
 
 /// The words behind the program's name; none where one isn't UTF-8.
@@ -27,18 +29,21 @@ fn words(rt: HostRuntime) -> Result<Vec<String>, AllocError> {
     }
 }
 
-/// The path of the design: the second word.
-fn design_path(alloc: Global, words: &[String]) -> Result<String, AllocError> {
-    match words.get(1) {
-        Some(path) => path.clone(),
+/// A word, or none where there are fewer.
+fn word_at(alloc: Global, words: &[String], index: usize) -> Result<String, AllocError> {
+    match words.get(index) {
+        Some(word) => word.clone(),
         None => Ok(String::new(alloc)),
     }
 }
 
-/// Runs the command of the arguments on the design's file and the standard streams.
+/// Runs the command of the arguments on the files that it names and the standard streams.
 fn execute(rt: HostRuntime) -> Result<Status, AllocError> {
     let words = words(rt)?;
-    let mut design = FileSource::new(rt, design_path(rt.alloc(), &words)?);
+    let records = words.len() == 3;
+    let mut design = FileSource::new(rt, word_at(rt.alloc(), &words, 1)?);
+    let log = word_at(rt.alloc(), &words, if records { 2 } else { 1 })?;
+    let mut deck = FileDeck::new(rt, log, records);
     let mut input = StdSource::new(rt);
     let mut out = StdSink::new(rt, false);
     let mut err = StdSink::new(rt, true);
@@ -47,6 +52,7 @@ fn execute(rt: HostRuntime) -> Result<Status, AllocError> {
         &words,
         &mut design,
         &mut input,
+        &mut deck,
         &mut out,
         &mut err,
     ))

@@ -1,22 +1,26 @@
 //! The phases of a command: the bytes of a source, its design, and the vectors of a script.
-ghost use Rattle.std.specs.Prelude.{◌≡◌, ◌≤◌, ◌^◌, ℕ, List, Err, take, nat_lt, length, IsTrue, IfOk, IfErr};
+ghost use Rattle.std.specs.List.Sorted.{IsStrictlyIncreasing};
+ghost use Rattle.std.specs.Prelude.{◌≡◌, ◌<◌, ◌≤◌, ◌^◌, ℕ, List, [], All, Err, take, nat_lt, length, false, IsTrue, IfOk, IfErr};
 ghost use Rattle.vod_io.specs.Told.{Told, Tells};
 ghost use Rattle.vod_io.specs.Faults.{Rose};
 ghost use Rattle.vod_design.specs.Names.{HasPlainNames};
-ghost use Rattle.vod_design.specs.Vectors.{IsLawful};
+ghost use Rattle.vod_design.specs.Vectors.{assigned};
 ghost use Rattle.vod_thin_script.specs.Script.{IsScript, IsRefused};
-ghost use Rattle.vod.specs.Sources.{IsSource, IsRefusedSource};
-ghost use Rattle.vod.specs.Phases.{stop_of, Refuses};
+ghost use Rattle.vod.specs.Sources.{IsSource, IsRefusedSource, IsOtherSource, IsUnrecordable};
+ghost use Rattle.vod.specs.Phases.{stop_of, fault_within, Refuses};
 
 use crate::status::{Part, Stop};
 use std::alloc::Global;
-use vod_design::thin::{Design, Vector};
+use vod_design::thin::Design;
 use vod_io::{FillFault, Filled, Source, fill};
 use vod_thin::{ThinFault, read_thin};
-use vod_thin_script::{ScriptFault, read_script};
+use vod_thin_script::{History, ScriptFault, read_script};
 
 /// The most bytes of a design and of a script.
 const MOST_BYTES: usize = 1_048_576;
+
+/// The most vectors that are recorded: with one more an image is due.
+const MOST_RECORDED: usize = 4_095;
 
 /// Why a phase has no answer.
 #[derive(Clone, Copy, Debug, PartialEq, Eq)]
@@ -69,6 +73,16 @@ impl From<ThinFault> for PhaseFault {
 }
 
 impl PhaseFault {
+    /// The fault where no more than so many lines are read.
+    fn within(self, lines: u64) -> PhaseFault
+        ensures { result ≡ fault_within self lines }
+    {
+        match self {
+            PhaseFault::Refused(line) => PhaseFault::Refused(line.min(lines)),
+            fault => fault,
+        }
+    }
+
     /// The stop of a phase that reads a part.
     pub fn stop(self, part: Part) -> Stop
         ensures { result ≡ stop_of self part }
@@ -94,6 +108,7 @@ fn bytes_of<S: Source>(alloc: Global, source: &mut S) -> Result<Filled, PhaseFau
     ensures full { IfOk result (λ filled. IsTrue filled.more → length filled.bytes.items ≡ 2 ^ 20) }
     ensures front { IfOk result (λ filled. Tells (S.left source.old) (λ text. filled.bytes.items ≡ take (2 ^ 20) text)) }
     ensures more { IfOk result (λ filled. Tells (S.left source.old) (λ text. filled.more ≡ nat_lt (2 ^ 20) (length text))) }
+    ensures end { IfOk result (λ filled. filled.more ≡ false → Told (S.left source.new) []) }
     ensures refused { IfErr result (λ fault. Refuses fault (λ _. ⊥)) }
     ensures counted { S.faults source.old ≤ S.faults source.new }
     ensures caused { result ≡ Err PhaseFault.Read → Rose (S.faults source.old) (S.faults source.new) }
@@ -103,14 +118,16 @@ fn bytes_of<S: Source>(alloc: Global, source: &mut S) -> Result<Filled, PhaseFau
 }
 
 /// The vectors of a script.
-pub fn vectors_of<S: Source>(
+pub fn vectors_of<'d, S: Source>(
     alloc: Global,
-    design: &Design,
+    design: &'d Design,
     script: &mut S,
-) -> Result<Vec<Vector>, PhaseFault>
+) -> Result<History<'d>, PhaseFault>
     requires { HasPlainNames design.now }
-    ensures vectors { IfOk result (λ vectors. Tells (S.left script.old) (λ text. IsScript design.now text vectors.items)) }
-    ensures lawful { IfOk result (λ vectors. IsLawful design.now vectors.items) }
+    ensures design { IfOk result (λ past. past.design ≡ design.now) }
+    ensures vectors { IfOk result (λ past. Tells (S.left script.old) (λ text. IsScript design.now text past.vectors)) }
+    ensures rises { IfOk result (λ past. All (λ v. IsStrictlyIncreasing (assigned v.moves)) past.vectors) }
+    ensures end { IfOk result (λ _. Told (S.left script.new) []) }
     ensures refused { IfErr result (λ fault. Refuses fault (λ line. Tells (S.left script.old) (λ text. IsRefused design.now text line))) }
     ensures counted { S.faults script.old ≤ S.faults script.new }
     ensures caused { result ≡ Err PhaseFault.Read → Rose (S.faults script.old) (S.faults script.new) }
@@ -119,8 +136,50 @@ pub fn vectors_of<S: Source>(
     if text.more {
         return Err(PhaseFault::Refused(0));
     }
-    let vectors = read_script(alloc, design, text.bytes.as_slice())?;
-    Ok(vectors)
+    let past = read_script(alloc, design, text.bytes.as_slice())?;
+    Ok(past)
+}
+
+/// The vectors of a script that is recorded, of which there are at most 4,095.
+pub fn recordable_of<'d, S: Source>(
+    alloc: Global,
+    design: &'d Design,
+    script: &mut S,
+) -> Result<History<'d>, PhaseFault>
+    requires { HasPlainNames design.now }
+    ensures design { IfOk result (λ past. past.design ≡ design.now) }
+    ensures vectors { IfOk result (λ past. Tells (S.left script.old) (λ text. IsScript design.now text past.vectors)) }
+    ensures few { IfOk result (λ past. length past.vectors < 4096) }
+    ensures rises { IfOk result (λ past. All (λ v. IsStrictlyIncreasing (assigned v.moves)) past.vectors) }
+    ensures end { IfOk result (λ _. Told (S.left script.new) []) }
+    ensures refused { IfErr result (λ fault. Refuses fault (λ line. Tells (S.left script.old) (λ text. IsUnrecordable design.now text line))) }
+    ensures counted { S.faults script.old ≤ S.faults script.new }
+    ensures caused { result ≡ Err PhaseFault.Read → Rose (S.faults script.old) (S.faults script.new) }
+{
+    let past = match vectors_of(alloc, design, script) {
+        Ok(past) => past,
+        Err(fault) => return Err(fault.within(MOST_RECORDED as u64 + 1)),
+    };
+    if past.vectors().len() > MOST_RECORDED {
+        return Err(PhaseFault::Refused(MOST_RECORDED as u64 + 1));
+    }
+    Ok(past)
+}
+
+/// The design of a source that a log holds. It is refused at 0.
+pub fn held_design(alloc: Global, source: &[u8]) -> Result<Design, PhaseFault>
+    ensures source { IfOk result (IsSource source.now) }
+    ensures plain { IfOk result HasPlainNames }
+    ensures refused { IfErr result (λ fault. Refuses fault (λ at. (at ≡ 0) × IsOtherSource source.now)) }
+    ensures unread { result ≡ Err PhaseFault.Read → ⊥ }
+{
+    if source.len() > MOST_BYTES {
+        return Err(PhaseFault::Refused(0));
+    }
+    match read_thin(alloc, source, false) {
+        Ok(design) => Ok(design),
+        Err(fault) => Err(PhaseFault::from(fault).within(0)),
+    }
 }
 
 /// The source of a design, read to its end, and its design.

@@ -1,12 +1,12 @@
 //! How a call ends, and what it says of that.
-ghost use Rattle.std.specs.Prelude.{◌≡◌, ◌⊎◌, ◌≤◌, ◌++◌, codes};
+ghost use Rattle.std.specs.Prelude.{◌≡◌, ◌⊎◌, ◌≤◌, Option};
 ghost use Rattle.vod_io.specs.Told.{Written};
 ghost use Rattle.vod_io.specs.Faults.{HasCause, Rose};
-ghost use Rattle.vod.specs.declared.status.Part.TheVariants as part;
-ghost use Rattle.vod.specs.Ends.{code_of, part_name, line_of, plain_line, status_of, Reports};
+ghost use Rattle.vod.specs.Ends.{code_of, text_of, number_of, number_text, ending, line_of, range_status, status_of, Reports};
 
 use vod_io::{Failed, Sink, put_all};
 use vod_text::put_decimal;
+use vod_thin_replay::RangeFault;
 
 /// What a call can't do yet, or not with what it was handed.
 #[derive(Clone, Copy, Debug, PartialEq, Eq)]
@@ -15,23 +15,41 @@ pub enum Part {
     Design,
     /// The script breaks a rule; the place is the number of a line, or 0 where it is too long.
     Script,
+    /// The log holds what isn't read yet, or isn't empty; the place is a byte offset.
+    Log,
 }
 
-/// How a call ended.
+/// How a call ended. Times are those of the log.
 #[derive(Clone, Copy, Debug, PartialEq, Eq)]
 pub enum Status {
-    /// The whole answer was written.
+    /// The whole answer was written, or all was recorded.
     Ok,
     /// The words are no command.
     Usage,
-    /// A part isn't of a form that is read yet.
-    NotYet { part: Part, place: u64 },
+    /// The window ends before it begins.
+    Backwards,
+    /// The log holds no vector.
+    NothingHeld,
+    /// Some input never has a value.
+    NeverKnown,
+    /// The window begins before this time, from which on each input has a value.
+    TooEarly(u64),
+    /// The window ends past this time, the last that is held.
+    PastEnd(u64),
+    /// The bytes of the log aren't framed: the record behind the gate at this place is wrong.
+    NotALog(u64),
+    /// The payload of the record behind the gate at this place is wrong.
+    Damaged(u64),
+    /// The log's device failed.
+    DeckFault,
     /// The design or the input failed.
     ReadFault,
     /// A sink failed, which took a prefix of what was to be written.
     WriteFault,
     /// There was no memory.
     OutOfMemory,
+    /// A part isn't of a form that is read yet.
+    NotYet { part: Part, place: u64 },
 }
 
 impl Status {
@@ -42,6 +60,13 @@ impl Status {
         match self {
             Status::Ok => 0,
             Status::Usage => 2,
+            Status::Backwards
+            | Status::NothingHeld
+            | Status::NeverKnown
+            | Status::TooEarly(_)
+            | Status::PastEnd(_) => 5,
+            Status::NotALog(_) | Status::Damaged(_) => 6,
+            Status::DeckFault => 7,
             Status::ReadFault => 8,
             Status::WriteFault => 9,
             Status::OutOfMemory => 10,
@@ -55,9 +80,25 @@ impl Status {
 pub enum Stop {
     Usage,
     NotYet(Part, u64),
+    Range(RangeFault),
+    NotALog(u64),
+    Damaged(u64),
+    Deck,
     Read,
     Write,
     Memory,
+}
+
+fn range_status(fault: RangeFault) -> Status
+    ensures { result ≡ range_status fault }
+{
+    match fault {
+        RangeFault::Backwards => Status::Backwards,
+        RangeFault::NothingHeld => Status::NothingHeld,
+        RangeFault::NeverKnown => Status::NeverKnown,
+        RangeFault::TooEarly(time) => Status::TooEarly(time),
+        RangeFault::PastEnd(time) => Status::PastEnd(time),
+    }
 }
 
 fn status_of(stop: Stop) -> Status
@@ -66,44 +107,72 @@ fn status_of(stop: Stop) -> Status
     match stop {
         Stop::Usage => Status::Usage,
         Stop::NotYet(part, place) => Status::NotYet { part, place },
+        Stop::Range(fault) => range_status(fault),
+        Stop::NotALog(at) => Status::NotALog(at),
+        Stop::Damaged(at) => Status::Damaged(at),
+        Stop::Deck => Status::DeckFault,
         Stop::Read => Status::ReadFault,
         Stop::Write => Status::WriteFault,
         Stop::Memory => Status::OutOfMemory,
     }
 }
 
-/// The line of a stop that has no place, with its LF; of a failed sink there is none.
-fn plain_line(stop: Stop) -> &'static [u8]
-    ensures { result.now ≡ plain_line stop }
+/// The line of a window that isn't in the log, up to its time.
+fn range_text(fault: RangeFault) -> &'static [u8]
+    ensures { result.now ≡ text_of (Stop.Range fault) }
+{
+    match fault {
+        RangeFault::Backwards => b"window refused: Backwards",
+        RangeFault::NothingHeld => b"window refused: NothingHeld",
+        RangeFault::NeverKnown => b"window refused: NeverKnown",
+        RangeFault::TooEarly(_) => b"window refused: TooEarly ",
+        RangeFault::PastEnd(_) => b"window refused: PastEnd ",
+    }
+}
+
+/// The line of a stop, up to its number or its end; of a failed sink there is none.
+fn text_of(stop: Stop) -> &'static [u8]
+    ensures { result.now ≡ text_of stop }
 {
     match stop {
-        Stop::Usage => b"usage: vod [--every N] ACTION [ARGS]..\n",
-        Stop::Read => b"read fault\n",
-        Stop::Memory => b"out of memory\n",
-        Stop::NotYet(..) | Stop::Write => b"",
+        Stop::Usage => b"usage: vod [--every N] ACTION [ARGS]..",
+        Stop::NotYet(Part::Design, _) => b"not yet: design at ",
+        Stop::NotYet(Part::Script, _) => b"not yet: script line ",
+        Stop::NotYet(Part::Log, _) => b"not yet: log at ",
+        Stop::Range(fault) => range_text(fault),
+        Stop::NotALog(_) => b"log refused: NotALog ",
+        Stop::Damaged(_) => b"log refused: Damaged ",
+        Stop::Deck => b"deck fault",
+        Stop::Read => b"read fault",
+        Stop::Write => b"",
+        Stop::Memory => b"out of memory",
     }
 }
 
-/// What stands before the place.
-fn not_yet(part: Part) -> &'static [u8]
-    ensures { result.now ≡ codes "not yet: " ++ part_name part }
+/// The number at the end of a line.
+fn number_of(stop: Stop) -> Option<u64>
+    ensures { result ≡ number_of stop }
 {
-    match part {
-        Part::Design => b"not yet: design at ",
-        Part::Script => b"not yet: script line ",
+    match stop {
+        Stop::NotYet(_, number)
+        | Stop::Range(RangeFault::TooEarly(number) | RangeFault::PastEnd(number))
+        | Stop::NotALog(number)
+        | Stop::Damaged(number) => Some(number),
+        Stop::Usage | Stop::Range(_) | Stop::Deck | Stop::Read | Stop::Write | Stop::Memory => None,
     }
 }
 
-/// Writes the line of a part and its place.
-fn put_place<E: Sink>(err: &mut E, part: Part, place: u64) -> Result<(), Failed>
-    ensures written { Written result (E.taken err.old) (E.taken err.new) (line_of (Stop.NotYet part place)) }
+/// Writes a number, if there is one.
+fn put_number<E: Sink>(err: &mut E, number: Option<u64>) -> Result<(), Failed>
+    ensures written { Written result (E.taken err.old) (E.taken err.new) (number_text number) }
     ensures caused { HasCause (E.faults err.old) (E.faults err.new) result }
 {
     let mut digits = [0; 20];
-    let count = put_decimal(place, &mut digits);
-    put_all(err, not_yet(part))?;
-    put_all(err, &digits[..count])?;
-    put_all(err, b"\n")
+    let count = match number {
+        Some(number) => put_decimal(number, &mut digits),
+        None => 0,
+    };
+    put_all(err, &digits[..count])
 }
 
 /// Writes the line of a stop.
@@ -111,9 +180,18 @@ fn put_line<E: Sink>(err: &mut E, stop: Stop) -> Result<(), Failed>
     ensures written { Written result (E.taken err.old) (E.taken err.new) (line_of stop) }
     ensures caused { HasCause (E.faults err.old) (E.faults err.new) result }
 {
+    put_all(err, text_of(stop))?;
+    put_number(err, number_of(stop))?;
+    put_all(err, ending(stop))
+}
+
+/// The LF behind a line; of a failed sink there is none.
+fn ending(stop: Stop) -> &'static [u8]
+    ensures { result.now ≡ ending stop }
+{
     match stop {
-        Stop::NotYet(part, place) => put_place(err, part, place),
-        Stop::Usage | Stop::Read | Stop::Write | Stop::Memory => put_all(err, plain_line(stop)),
+        Stop::Write => b"",
+        _ => b"\n",
     }
 }
 

@@ -1,9 +1,12 @@
-//! The top call on sources and sinks in memory.
+//! The top call on sources, sinks and decks in memory.
+mod log;
+
 use crate::status::{Part, Status};
 use crate::top::vod;
 use std::alloc::Global;
 use std::process::Abort;
 use std::test::Fail;
+use vod_deck::{MemDeck, Room};
 use vod_io::{MemSink, MemSource};
 
 /// The calls of each object that fail.
@@ -49,11 +52,34 @@ const DUMP: &str =
 const FLIP_FLOP: &str =
     "module f (input clk, input d, output q); reg r = 0; always @(posedge clk) r <= d; assign q = r; endmodule";
 
+/// A deck that holds these bytes, with room for a long recording.
+fn deck(alloc: Global, bytes: &[u8], fails: &[u64], stop: Option<u64>) -> Result<MemDeck, Fail> {
+    let room = Room {
+        bytes: 400_000,
+        said: 4_000,
+        calls: 1_000,
+    };
+    let fails = fails.to_vec(alloc)?;
+    Ok(MemDeck::new(alloc, bytes.to_vec(alloc)?, room, fails, stop)?)
+}
+
 fn call(
     alloc: Global,
     words: &[&str],
     design: &str,
     script: &str,
+    fails: Fails<'_>,
+) -> Result<Answer, Fail> {
+    let mut untouched = deck(alloc, b"", &[], None)?;
+    call_on(alloc, words, design, script, &mut untouched, fails)
+}
+
+fn call_on(
+    alloc: Global,
+    words: &[&str],
+    design: &str,
+    script: &str,
+    deck: &mut MemDeck,
     fails: Fails<'_>,
 ) -> Result<Answer, Fail> {
     let mut texts = Vec::new(alloc);
@@ -67,7 +93,15 @@ fn call(
     let mut input = MemSource::new(script.as_bytes().to_vec(alloc)?, fails.input.to_vec(alloc)?);
     let mut out = MemSink::new(alloc, 4096, fails.out.to_vec(alloc)?)?;
     let mut err = MemSink::new(alloc, 4096, fails.err.to_vec(alloc)?)?;
-    let status = vod(alloc, &texts, &mut design, &mut input, &mut out, &mut err);
+    let status = vod(
+        alloc,
+        &texts,
+        &mut design,
+        &mut input,
+        deck,
+        &mut out,
+        &mut err,
+    );
     Ok(Answer {
         status,
         out: out.taken().to_vec(alloc)?,
@@ -152,13 +186,17 @@ fn no_vectors(rt: HostRuntime) -> Result<(), Fail> {
 #[test]
 fn words_that_are_no_command(rt: HostRuntime) -> Result<(), Fail> {
     let line = "usage: vod [--every N] ACTION [ARGS]..\n";
-    let lists: [&[&str]; 6] = [
+    let lists: [&[&str]; 10] = [
         &[],
         &["dump"],
         &["dump", "g", "1"],
         &["dump", "g", "1", "3"],
         &["record", "g"],
         &["dumps", "g"],
+        &["window", "l", "1"],
+        &["window", "l", "1", "x"],
+        &["window", "l", "-1", "2"],
+        &["window", "l", "0", "9223372036854775808"],
     ];
     for words in lists.iter() {
         refused(&rt, rt.alloc(), words, GATES, SCRIPT, Status::Usage, line)?;

@@ -1,50 +1,131 @@
 //! The call that the program makes.
-ghost use Rattle.std.specs.Prelude.{ℕ, ◌≡◌, ◌≤◌, ◌⊎◌, Err, map, string_bytes};
-ghost use Rattle.vod.specs.Answer.{World, Count};
-ghost use Rattle.vod.specs.Caused.{IsAnswered, IsRefusal, IsSaid};
+ghost use Rattle.std.specs.Prelude.{ℕ, ◌≡◌, ◌≤◌, ◌⊎◌, [], Ok, Err, map, string_bytes};
+ghost use Rattle.vod_io.specs.Told.{Told};
+ghost use Rattle.vod_deck.specs.Outcomes.{View, From, Leaves};
+ghost use Rattle.vod_log.specs.Tail.{IsUnchanged};
+ghost use Rattle.vod.specs.Answer.{Inputs, Output, Device, World, Count, Answers, IsLeft};
+ghost use Rattle.vod.specs.Caused.{IsAnswered, IsSaid, MayWrite};
+ghost use Rattle.vod.specs.Command.{IsCommand};
+ghost use Rattle.vod.specs.Quiet.{Writes, ReadsInputs, UsesDeck};
+ghost use Rattle.vod.specs.declared.command.Command.{Command};
+ghost use Rattle.vod.specs.declared.command.Command.TheVariants as command;
+ghost use Rattle.vod_thin_window.specs.declared.window.Window as span;
 ghost use Rattle.vod.specs.declared.status.Part.TheVariants as part;
 
+use crate::command::{Command, command_of};
 use crate::dump::dump;
-use crate::status::{Status, report};
+use crate::record::record;
+use crate::status::{Status, Stop, report};
+use crate::window::window;
 use std::alloc::Global;
+use vod_deck::Deck;
 use vod_io::{Sink, Source};
 use vod_thin::{one_design, one_place, plain_names};
-use vod_thin_script::one_refusal;
+use vod_thin_code::one_head;
+use vod_thin_replay::sound_is_undamaged;
+use vod_thin_script::{one_reading, one_refusal};
 
-/// Runs the command that the words are: `dump DESIGN` writes on `out` the full dump of the design over
-/// the vectors of `input`, as each legal run of the event queue gives it. Each status but `Ok` and
-/// `WriteFault` writes its line on `err`.
-pub fn vod<D: Source, S: Source, K: Sink, E: Sink>(
+/// The answer of the command that the words are.
+fn answer<D: Source, S: Source, L: Deck, K: Sink>(
     alloc: Global,
     words: &[String],
     design: &mut D,
     input: &mut S,
+    deck: &mut L,
+    out: &mut K,
+) -> Result<(), Stop>
+    ensures answers { let world : World = record {
+      words = map string_bytes words.now;
+      inputs = record {
+        source = D.left design.old;
+        script = S.left input.old;
+        design_faults = record { before = D.faults design.old; after = D.faults design.new };
+        input_faults = record { before = S.faults input.old; after = S.faults input.new };
+      };
+      output = record { before = K.taken out.old; after = K.taken out.new; faults = record { before = K.faults out.old; after = K.faults out.new } };
+      device = record { told = L.tells; before = L.view deck.old; after = L.view deck.new };
+    } in Answers world result }
+    ensures quiet { (Writes result → ⊥) → out.new ≡ out.old }
+    ensures no_inputs { ((command : Command) → IsCommand (map string_bytes words.now) command → ReadsInputs command → ⊥) → (design.new ≡ design.old) × (input.new ≡ input.old) }
+    ensures no_deck { ((command : Command) → IsCommand (map string_bytes words.now) command → UsesDeck command → ⊥) → deck.new ≡ deck.old }
+    ensures no_out { IsCommand (map string_bytes words.now) command.Record → out.new ≡ out.old }
+    ensures unchanged { L.tells → (window : span.Window) → IsCommand (map string_bytes words.now) (command.Window window) → IsUnchanged (L.view deck.old) (L.view deck.new) }
+    ensures no_script { (place : ℕ) → result ≡ Err (Stop.NotYet part.Design place) → (input.new ≡ input.old) × (deck.new ≡ deck.old) }
+    ensures ended { result ≡ Ok tt → (command : Command) → IsCommand (map string_bytes words.now) command → ReadsInputs command → Told (S.left input.new) [] }
+    ensures stops { let inputs : Inputs = record {
+      source = D.left design.old;
+      script = S.left input.old;
+      design_faults = record { before = D.faults design.old; after = D.faults design.new };
+      input_faults = record { before = S.faults input.old; after = S.faults input.new };
+    } in let device : Device = record { told = L.tells; before = L.view deck.old; after = L.view deck.new } in
+        L.tells → Leaves (L.view deck.old) (L.view deck.new) (From (L.view deck.old).may_leave (IsLeft inputs device)) }
+    ensures design_counted { D.faults design.old ≤ D.faults design.new }
+    ensures input_counted { S.faults input.old ≤ S.faults input.new }
+    ensures deck_counted { (L.view deck.old).faults ≤ (L.view deck.new).faults }
+    ensures out_counted { K.faults out.old ≤ K.faults out.new }
+{
+    match command_of(words) {
+        Some(Command::Record) => record(alloc, design, input, deck),
+        Some(Command::Window(span)) => window(alloc, deck, span, out),
+        Some(Command::Dump) => dump(alloc, design, input, out),
+        None => Err(Stop::Usage),
+    }
+}
+
+/// Runs the command that the words are.
+///
+/// - `record DESIGN LOG` appends the vectors of `input` to the empty log on `deck`, and says which are safe.
+/// - `window LOG A B` writes on `out` the window from A to B of the run that the log on `deck` holds.
+/// - `dump DESIGN` writes on `out` the full dump of the design over the vectors of `input`.
+///
+/// What is written is what each legal run of the event queue gives. Each status but `Ok` and `WriteFault` writes its line on
+/// `err`.
+pub fn vod<D: Source, S: Source, L: Deck, K: Sink, E: Sink>(
+    alloc: Global,
+    words: &[String],
+    design: &mut D,
+    input: &mut S,
+    deck: &mut L,
     out: &mut K,
     err: &mut E,
 ) -> Status
     ensures answered { let world : World = record {
       words = map string_bytes words.now;
-      source = D.left design.old;
-      script = S.left input.old;
-      before = K.taken out.old;
-      after = K.taken out.new;
-      design_faults = record { before = D.faults design.old; after = D.faults design.new };
-      input_faults = record { before = S.faults input.old; after = S.faults input.new };
-      out_faults = record { before = K.faults out.old; after = K.faults out.new };
+      inputs = record {
+        source = D.left design.old;
+        script = S.left input.old;
+        design_faults = record { before = D.faults design.old; after = D.faults design.new };
+        input_faults = record { before = S.faults input.old; after = S.faults input.new };
+      };
+      output = record { before = K.taken out.old; after = K.taken out.new; faults = record { before = K.faults out.old; after = K.faults out.new } };
+      device = record { told = L.tells; before = L.view deck.old; after = L.view deck.new };
     } in IsAnswered world (record { before = E.faults err.old; after = E.faults err.new }) result }
 
     // What the streams took besides.
     ensures said { IsSaid result (E.taken err.old) (E.taken err.new) }
     ensures silent { result ≡ Status.Ok → err.new ≡ err.old }
-    ensures quiet { IsRefusal result → out.new ≡ out.old }
+    ensures quiet { (MayWrite result → ⊥) → out.new ≡ out.old }
+    ensures ended { result ≡ Status.Ok → (command : Command) → IsCommand (map string_bytes words.now) command → ReadsInputs command → Told (S.left input.new) [] }
 
-    // What isn't read stays as it was.
-    ensures no_design { result ≡ Status.Usage → design.new ≡ design.old }
-    ensures no_input { result ≡ Status.Usage → input.new ≡ input.old }
-    ensures no_script { (place : ℕ) → result ≡ Status.NotYet part.Design place → input.new ≡ input.old }
+    // What a command doesn't use stays as it was.
+    ensures no_inputs { ((command : Command) → IsCommand (map string_bytes words.now) command → ReadsInputs command → ⊥) → (design.new ≡ design.old) × (input.new ≡ input.old) }
+    ensures no_deck { ((command : Command) → IsCommand (map string_bytes words.now) command → UsesDeck command → ⊥) → deck.new ≡ deck.old }
+    ensures no_out { IsCommand (map string_bytes words.now) command.Record → out.new ≡ out.old }
+    ensures unchanged { L.tells → (window : span.Window) → IsCommand (map string_bytes words.now) (command.Window window) → IsUnchanged (L.view deck.old) (L.view deck.new) }
+    ensures no_script { (place : ℕ) → result ≡ Status.NotYet part.Design place → (input.new ≡ input.old) × (deck.new ≡ deck.old) }
+
+    // A stop at any moment of the call leaves what one at entry left, or a sound log of the source and the first vectors.
+    ensures stops { let inputs : Inputs = record {
+      source = D.left design.old;
+      script = S.left input.old;
+      design_faults = record { before = D.faults design.old; after = D.faults design.new };
+      input_faults = record { before = S.faults input.old; after = S.faults input.new };
+    } in let device : Device = record { told = L.tells; before = L.view deck.old; after = L.view deck.new } in
+        L.tells → Leaves (L.view deck.old) (L.view deck.new) (From (L.view deck.old).may_leave (IsLeft inputs device)) }
 
     ensures design_counted { D.faults design.old ≤ D.faults design.new }
     ensures input_counted { S.faults input.old ≤ S.faults input.new }
+    ensures deck_counted { (L.view deck.old).faults ≤ (L.view deck.new).faults }
     ensures out_counted { K.faults out.old ≤ K.faults out.new }
     ensures err_counted { E.faults err.old ≤ E.faults err.new }
 {
@@ -52,8 +133,11 @@ pub fn vod<D: Source, S: Source, K: Sink, E: Sink>(
     one_design();
     one_place();
     plain_names();
+    one_reading();
     one_refusal();
-    match dump(alloc, words, design, input, out) {
+    one_head();
+    sound_is_undamaged();
+    match answer(alloc, words, design, input, deck, out) {
         Ok(()) => Status::Ok,
         Err(stop) => report(stop, err),
     }

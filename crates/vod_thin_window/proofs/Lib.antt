@@ -1,0 +1,4 @@
+pub mod StepsLaws
+pub mod WindowLaws
+pub mod RequestLaws
+pub mod FrontLaws

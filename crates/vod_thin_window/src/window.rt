@@ -1,0 +1,205 @@
+//! A window, written as the run goes on.
+ghost use Rattle.std.specs.Prelude.{◌≡◌, ◌≤◌, ◌+◌, ◌∷◌, ◌++◌, List, All, length, MatchOption, IfOk, OnOk, OnErr, Err};
+ghost use Rattle.vod_io.specs.Told.{Written};
+ghost use Rattle.vod_io.specs.Faults.{HasCause, Rose};
+ghost use Rattle.vod_design.specs.Netlist.{IsAccepted};
+ghost use Rattle.vod_design.specs.Vectors.{IsLawful, last_time};
+ghost use Rattle.vod_queue.specs.State.{State};
+ghost use Rattle.vod_queue.specs.Run.{AreSlots};
+ghost use Rattle.vod_vcd.specs.Stream.{window_text, rest_text};
+ghost use Rattle.vod_thin_window.specs.Moments.{moments};
+ghost use Rattle.vod_thin_window.specs.Request.{Request, dump_of, window_of, IsWritten, IsBegun};
+ghost use Rattle.vod_thin_window.specs.Progress.{Awaits, IsOver, Skips};
+
+use crate::run::{run_slot, started};
+use std::alloc::Global;
+use vod_design::thin::{Design, Vector};
+use vod_io::{Failed, Sink};
+use vod_queue::{Queue, inputs_take_moves, orders_agree, orders_end};
+use vod_vcd::{Writer, window_is_cut};
+
+/// A window of time, from one time to another, both in it.
+#[derive(Clone, Copy, Debug, PartialEq, Eq)]
+pub struct Window {
+    pub from: u64,
+    pub to: u64,
+}
+
+/// Why a window isn't written whole.
+#[derive(Clone, Copy, Debug, PartialEq, Eq)]
+pub enum WindowFault {
+    /// The sink failed.
+    Write,
+    /// There was no memory.
+    Memory,
+}
+
+impl From<Failed> for WindowFault {
+    ghost use Rattle.std.specs.Prelude.{◌≡◌};
+    ghost use Rattle.vod_thin_window.specs.declared.window.WindowFault.TheVariants.{Write};
+
+    ghost from_gives = { λ _ fault. fault ≡ Write };
+
+    fn from(_failed: Failed) -> WindowFault {
+        WindowFault::Write
+    }
+}
+
+impl From<vod_queue::Memory> for WindowFault {
+    ghost use Rattle.std.specs.Prelude.{◌≡◌};
+    ghost use Rattle.vod_thin_window.specs.declared.window.WindowFault.TheVariants.{Memory};
+
+    ghost from_gives = { λ _ fault. fault ≡ Memory };
+
+    fn from(_memory: vod_queue::Memory) -> WindowFault {
+        WindowFault::Memory
+    }
+}
+
+impl From<vod_vcd::Memory> for WindowFault {
+    ghost use Rattle.std.specs.Prelude.{◌≡◌};
+    ghost use Rattle.vod_thin_window.specs.declared.window.WindowFault.TheVariants.{Memory};
+
+    ghost from_gives = { λ _ fault. fault ≡ Memory };
+
+    fn from(_memory: vod_vcd::Memory) -> WindowFault {
+        WindowFault::Memory
+    }
+}
+
+/// The first vector and the others, where it isn't past a time.
+fn due(vectors: &[Vector], to: u64) -> Option<(&Vector, &[Vector])>
+    ensures { MatchOption result (IsOver vectors.now to) (λ p. (p.0.now.time ≤ to) × (vectors.now ≡ p.0.now ∷ p.1.now) × (length p.1.now + 1 ≡ length vectors.now)) }
+{
+    let (vector, behind) = vectors.split_first()?;
+    if vector.time > to {
+        return None;
+    }
+    Some((vector, behind))
+}
+
+/// Runs the slots of the vectors not past a time, and answers the other vectors.
+fn skip<'v>(queue: &mut Queue<'_>, vectors: &'v [Vector], from: u64) -> &'v [Vector]
+    requires { Awaits queue.old.design queue.old.state vectors.now }
+    ensures design { queue.new.design ≡ queue.old.design }
+    ensures awaits { Awaits queue.old.design queue.new.state result.now }
+    ensures skips { Skips queue.old.design queue.old.state vectors.now from queue.new.state result.now }
+{
+    let mut rest = vectors;
+    while let Some((vector, behind)) = due(rest, from) {
+        run_slot(queue, vector);
+        rest = behind;
+    }
+    rest
+}
+
+/// Writes the slots of the vectors not past a time, and the close at that time.
+fn write_rest<K: Sink>(
+    queue: &mut Queue<'_>,
+    writer: &mut Writer,
+    vectors: &[Vector],
+    to: u64,
+    out: &mut K,
+) -> Result<(), Failed>
+    requires awaits { Awaits queue.old.design queue.old.state vectors.now }
+    requires shown { writer.old.shown ≡ queue.old.state.val }
+    requires signals { writer.old.signals ≡ length queue.old.design.signals }
+    ensures written { (ends : List State) → AreSlots queue.old.design queue.old.state vectors.now ends →
+        Written result (K.taken out.old) (K.taken out.new) (rest_text queue.old.state.val writer.old.printed (moments vectors.now ends) to) }
+    ensures caused { HasCause (K.faults out.old) (K.faults out.new) result }
+{
+    let mut rest = vectors;
+    while let Some((vector, behind)) = due(rest, to) {
+        run_slot(queue, vector);
+        writer.slot(vector.time, queue.values(), out)?;
+        rest = behind;
+    }
+    writer.close(to, out)
+}
+
+/// Writes the header, the opening at a time, the slots from there on and not past another, and the close.
+fn write_run<K: Sink>(
+    queue: &mut Queue<'_>,
+    writer: &mut Writer,
+    vectors: &[Vector],
+    window: Window,
+    out: &mut K,
+) -> Result<(), Failed>
+    requires awaits { Awaits queue.old.design queue.old.state vectors.now }
+    requires signals { writer.old.signals ≡ length queue.old.design.signals }
+    ensures written { (ends : List State) → AreSlots queue.old.design queue.old.state vectors.now ends →
+        Written result (K.taken out.old) (K.taken out.new)
+        (writer.old.header ++ window_text queue.old.state.val (moments vectors.now ends) window.from window.to) }
+    ensures caused { HasCause (K.faults out.old) (K.faults out.new) result }
+{
+    writer.header(out)?;
+    let rest = skip(queue, vectors, window.from);
+    writer.opening(window.from, queue.values(), out)?;
+    write_rest(queue, writer, rest, window.to, out)
+}
+
+/// Writes the window of the run of a design over lawful vectors. After a fault the sink took a prefix of it.
+pub fn write_window<K: Sink>(
+    alloc: Global,
+    source: &[u8],
+    design: &Design,
+    vectors: &[Vector],
+    window: Window,
+    out: &mut K,
+) -> Result<(), WindowFault>
+    requires { IsLawful design.now vectors.now }
+    ensures written { let r : Request = record { source = source.now; design = design.now; vectors = vectors.now } in
+        OnOk result (IsWritten r (window_of r window.from window.to) (K.taken out.old) (K.taken out.new)) }
+    ensures begun { let r : Request = record { source = source.now; design = design.now; vectors = vectors.now } in
+        OnErr result (IsBegun r (window_of r window.from window.to) (K.taken out.old) (K.taken out.new)) }
+    ensures accepted { OnOk result (IsAccepted design.now) }
+    ensures counted { K.faults out.old ≤ K.faults out.new }
+    ensures caused { result ≡ Err WindowFault.Write → Rose (K.faults out.old) (K.faults out.new) }
+{
+    let mut queue = started(alloc, design)?;
+    let mut writer = Writer::new(alloc, design, source)?;
+    // Laws of the queue and of the dump, which do nothing when they run.
+    orders_agree();
+    orders_end();
+    inputs_take_moves();
+    window_is_cut();
+    write_run(&mut queue, &mut writer, vectors, window, out)?;
+    Ok(())
+}
+
+/// The time of the last vector, or 0.
+fn last_time(vectors: &[Vector]) -> u64
+    ensures { result ≡ last_time vectors.now }
+{
+    match vectors.split_last() {
+        Some((last, _)) => last.time,
+        None => 0,
+    }
+}
+
+/// Writes the full dump of the run of a design over lawful vectors, which is its window from 0 to the
+/// last time. After a fault the sink took a prefix of it.
+pub fn write_dump<K: Sink>(
+    alloc: Global,
+    source: &[u8],
+    design: &Design,
+    vectors: &[Vector],
+    out: &mut K,
+) -> Result<(), WindowFault>
+    requires { IsLawful design.now vectors.now }
+    ensures written { let r : Request = record { source = source.now; design = design.now; vectors = vectors.now } in
+        OnOk result (IsWritten r (dump_of r) (K.taken out.old) (K.taken out.new)) }
+    ensures begun { let r : Request = record { source = source.now; design = design.now; vectors = vectors.now } in
+        OnErr result (IsBegun r (dump_of r) (K.taken out.old) (K.taken out.new)) }
+    ensures counted { K.faults out.old ≤ K.faults out.new }
+    ensures caused { result ≡ Err WindowFault.Write → Rose (K.faults out.old) (K.faults out.new) }
+{
+    let whole = Window {
+        from: 0,
+        to: last_time(vectors),
+    };
+    // A law of the dump, which does nothing when it runs.
+    window_is_cut();
+    let written = write_window(alloc, source, design, vectors, whole, out);
+    written
+}
