@@ -124,3 +124,11 @@ pub said_behind : (old mid : View) (text : List ℕ) (c : Outcome) → ((m : Out
 said_behind old mid text c begins (m, may, said) =
     let (e, was, few, same) = begins m may in
     (e, was, said ∙ ap (λ t. t ++ text) same)
+
+-- the outcomes of a log that was just created
+pub begun_with : (old mid : View) → Leaves old mid (From old.may_leave (Opens old.bytes)) →
+    ((t : ℕ) (c : Outcome) → t ≤ mid.moment → mid.may_leave c → mid.left_since t c) → ((c : Outcome) → old.left_since old.moment c → old.may_leave c) →
+    Only mid.bytes mid.may_leave → mid.bytes ≡ 0 ∷ [] → (m : Outcome) → mid.may_leave m → (m.file ≡ 0 ∷ []) × IsCreated old m
+begun_with old mid leaves counts only lasts is m may =
+    let file : m.file ≡ 0 ∷ [] = lasts m may ∙ is in
+    (file, created old old.bytes m file (now_from old mid (From old.may_leave (Opens old.bytes)) leaves counts only m may))

@@ -1,10 +1,15 @@
 -- Each answer of `window`, from what its steps say.
-use Rattle.std.proofs.Common.{◌≡◌, ℕ, ◌<◌, ◌≤◌, ◌⊎◌, ◌==◌, List, [], ◌∷◌, ◌++◌, length, Bool, true, false, nat_le, nat_lt, Option, None, Some, Err, All, refl, sym, ap, subst, ◌∙◌, inl, inr, arith, cond}
+use Rattle.std.proofs.Common.{◌≡◌, ℕ, ◌<◌, ◌≤◌, ◌⊎◌, ◌==◌, List, [], ◌∷◌, ◌++◌, length, Bool, true, false, nat_le, nat_lt, if◌then◌else◌, Option, None, Some, Result, Ok, Err, All, refl, sym, ap, subst, ◌∙◌, inl, inr, arith, cond}
 use Rattle.std.proofs.lemmas.List.Elements.{All-head}
 use Rattle.vod_design.specs.declared.thin.Vector.{Vector}
 use Rattle.vod_design.specs.Netlist.{Netlist, IsAccepted}
 use Rattle.vod_design.specs.Vectors.{IsLawful, times}
-use Rattle.vod_log.specs.Format.{Entry, committed}
+use Rattle.vod_io.specs.Faults.{Rose}
+use Rattle.vod_log.specs.Format.{Entry, committed, counts_of, never}
+use Rattle.vod_log.specs.declared.header.Header.{Header}
+use Rattle.vod_thin_replay.specs.Range.{range_of}
+use Rattle.vod_thin_replay.specs.declared.held.RangeFault.{RangeFault}
+use Rattle.vod_thin_replay.specs.declared.held.RangeFault.TheVariants as range
 use Rattle.vod_thin_code.specs.Bytes.{IsHead}
 use Rattle.vod_thin_code.specs.Held.{IsHeld, IsSound}
 use Rattle.vod_thin_replay.specs.Replay.{HoldsSource, IsHeadDamagedAt, IsDamagedAt, IsHeldUpTo, OnDamaged}
@@ -22,6 +27,7 @@ use Rattle.vod.specs.Sources.{IsSource, IsOtherSource}
 use Rattle.vod.specs.Phases.{stop_of, window_stop, replay_stop, Refuses}
 use Rattle.vod.specs.Answer.{Output, Device, IsRisen, IsDeckRisen, IsInside, HoldsThin, HoldsOther, IsDamaged, OnSound, WindowAnswers}
 use Rattle.vod.proofs.AnswerLaws.{request}
+use Rattle.vod.proofs.PhaseLaws.{le_from}
 
 -- the head's source isn't read
 pub no_source : (out : Output) (deck : Device) (window : span.Window) (f : ReplayFault) → (deck.told → IsInside deck.before.bytes window) → (f ≡ replay.Deck → IsDeckRisen deck) →
@@ -81,7 +87,7 @@ none_due rest to past v more e = All-head (λ t. to < t) v.time (times more) (su
 
 -- a text of the window of what was read is one of the window of a sound log
 pub on_sound : Laws → (P : Request → Type 0) (deck : Device) (source : List ℕ) (d : Netlist) (us : List Vector) (to : ℕ) → (deck.told → HoldsSource deck.before.bytes source) → IsSource source d → (deck.told → IsHeldUpTo d deck.before.bytes to us) →
-    ((rest : List Vector) → IsLawful d (us ++ rest) → IsOver rest to → P (behind (request source d us) rest)) → OnSound deck P
+    (deck.told → (rest : List Vector) → IsLawful d (us ++ rest) → IsOver rest to → P (behind (request source d us) rest)) → OnSound deck P
 on_sound laws P deck source d us to has is reads holds told other e interval vs is_other sound =
     let sources : source ≡ other = same_source laws deck.before.bytes source other e interval vs (has told) sound.held in
     let designs : d ≡ e = laws.one_design other d e (subst (λ s. IsSource s d) sources is) is_other in
@@ -89,10 +95,38 @@ on_sound laws P deck source d us to has is reads holds told other e interval vs 
     let before : IsLawful d vs = subst (λ n. IsLawful n vs) (sym designs) sound.lawful in
     let (rest, all, past) = reads told source interval vs held in
     let lawful : IsLawful d (us ++ rest) = subst (λ ws. IsLawful d ws) all before in
-    subst (λ s. P (request s e vs)) sources (subst (λ n. P (request source n vs)) designs (subst (λ ws. P (request source d ws)) (sym all) (holds rest lawful (none_due rest to (past before)))))
+    subst (λ s. P (request s e vs)) sources (subst (λ n. P (request source n vs)) designs (subst (λ ws. P (request source d ws)) (sym all) (holds told rest lawful (none_due rest to (past before)))))
 
 -- the window isn't written whole
 pub no_window : (out : Output) (deck : Device) (window : span.Window) (f : WindowFault) → (deck.told → IsInside deck.before.bytes window × HoldsThin deck.before.bytes) → (f ≡ fault.Write → IsRisen out.faults) →
     OnSound deck (λ r. IsBegun r (window_of r window.from window.to) out.before out.after) → WindowAnswers out deck window (Err (window_stop f))
 no_window out deck window fault.Write inside write begun = (write refl, inside, begun)
 no_window out deck window fault.Memory inside write begun = inr begun
+
+-- a count that rose behind a later one rose behind an earlier one
+pub rose_from : (a b c : ℕ) → a ≤ b → Rose b c → Rose a c
+rose_from a b c le rose = omega (arith, le, rose)
+
+-- the same damage in the same bytes
+pub damaged_same : (f : ReplayFault) (told : Type 0) (d : Netlist) (a b : List ℕ) → (told → a ≡ b) → OnDamaged f (λ at. told → IsDamagedAt d a at) → OnDamaged f (λ at. told → IsDamagedAt d b at)
+damaged_same replay.Deck told d a b same h = tt
+damaged_same (replay.Damaged at) told d a b same h = λ t. subst (λ x. IsDamagedAt d x at) (same t) (h t)
+damaged_same replay.Memory told d a b same h = tt
+
+-- the refusals behind the first
+later : span.Window → Option Header → Result (Unit {0}) RangeFault
+later window last =
+    if (counts_of last).vectors == 0 then Err range.NothingHeld
+    else (if (counts_of last).known == never then Err range.NeverKnown
+    else (if nat_lt window.from (counts_of last).known then Err (range.TooEarly (counts_of last).known)
+    else (if nat_lt (counts_of last).last window.to then Err (range.PastEnd (counts_of last).last)
+    else Ok tt)))
+
+-- a window that a log holds doesn't end before it begins
+pub in_order : (bytes : List ℕ) (window : span.Window) → IsInside bytes window → window.from ≤ window.to
+unfolding later
+in_order bytes window inside = by_test (nat_lt window.to window.from) refl inside.range
+  where
+    by_test : (t : Bool) → nat_lt window.to window.from ≡ t → range_of (counts_of (committed bytes).last) window.from window.to ≡ Ok tt → window.from ≤ window.to
+    by_test false e h = le_from window.to window.from e
+    by_test true e h = let clash : Err range.Backwards ≡ Ok tt = sym (ap (λ t. cond t (Err range.Backwards) (later window (committed bytes).last)) e) ∙ h in cc

@@ -14,8 +14,10 @@ use std::alloc::Global;
 use vod_deck::Deck;
 use vod_io::Sink;
 use vod_log::{Bytes, Log};
+use vod_thin::one_design;
+use vod_thin_code::one_head;
 use vod_thin_replay::{first_image, range, read_source, read_vectors};
-use vod_thin_window::{Window, write_window};
+use vod_thin_window::{Window, window_of_front, write_window};
 
 /// The log on a deck, which holds no image and has the window in what it holds.
 fn open_window<L: Deck>(alloc: Global, deck: &mut L, window: Window) -> Result<Log, Stop>
@@ -71,6 +73,10 @@ pub fn window<L: Deck, K: Sink>(
         Ok(past) => past,
         Err(fault) => return Err(replay_stop(fault)),
     };
+    // Laws of what is held and of windows, which do nothing when they run.
+    one_head();
+    one_design();
+    window_of_front();
     match write_window(alloc, source, &design, past.vectors(), window, out) {
         Ok(()) => Ok(()),
         Err(fault) => Err(window_stop(fault)),

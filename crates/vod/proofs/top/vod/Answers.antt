@@ -1,8 +1,27 @@
-use Rattle.std.proofs.Common.{map, string_bytes, ap, Err, Ok}
+use Rattle.std.proofs.Common.{map, string_bytes, ap, Err, Ok, inl, refl}
 use Rattle.vod.specs.Answer.{Count, World}
+use Rattle.vod.specs.declared.status.Status.TheVariants as status
 use Rattle.vod.proofs.SourceLaws.{OneAnswer, one_answer}
 use Rattle.vod.proofs.CausedLaws.{Held, answered, said, may_write}
 use Rattle.vod.proofs.top.vod.Goals as goal
+
+pub returns-in-Ok-clause-answered : goal.returns-in-Ok-clause-answered
+returns-in-Ok-clause-answered g c =
+    let w : World = record {
+      words = map string_bytes c.args.words.now;
+      inputs = record {
+        source = g.D.Source.left c.args.design.now;
+        script = g.S.Source.left c.args.input.now;
+        design_faults = record { before = g.D.Source.faults c.args.design.now; after = g.D.Source.faults c.answer.new.design };
+        input_faults = record { before = g.S.Source.faults c.args.input.now; after = g.S.Source.faults c.answer.new.input };
+      };
+      output = record { before = g.K.Sink.taken c.args.out.now; after = g.K.Sink.taken c.answer.new.out; faults = record { before = g.K.Sink.faults c.args.out.now; after = g.K.Sink.faults c.answer.new.out } };
+      device = record { told = g.L.Deck.tells; before = g.L.Deck.view c.args.deck.now; after = g.L.Deck.view c.answer.new.deck };
+    } in
+    let one : OneAnswer = one_answer c.one_design.ensures c.one_place.ensures.refused c.one_place.ensures.thin c.plain_names.ensures c.one_reading.ensures c.one_refusal.ensures.line c.one_refusal.ensures.unread in
+    let held : Held = record { laws = record { one_head = c.one_head.ensures; one_design = one.design }; undamaged = c.sound_is_undamaged.ensures.batches } in
+    let err : Count = record { before = g.E.Sink.faults c.args.err.now; after = g.E.Sink.faults c.args.err.now } in
+    answered one held w err (Ok c.in-Ok.field-0) status.Ok c.in-Ok.ensures.answers (inl refl)
 
 pub returns-in-Err-clause-answered : goal.returns-in-Err-clause-answered
 returns-in-Err-clause-answered g c =
