@@ -153,13 +153,17 @@ fn logs_that_are_damaged(rt: HostRuntime) -> Result<(), Fail> {
         ),
     ] {
         let mut bytes = log.bytes().to_vec(alloc)?;
-        bytes[place] ^= 0x20;
+        if let Some(byte) = bytes.get_mut(place) {
+            *byte ^= 0x20;
+        }
         let mut turned = deck(alloc, bytes.as_slice(), &[], None)?;
         refused(&rt, alloc, &mut turned, "1", "3", status, line)?;
     }
     // The value of the first assignment of the batch.
     let mut bytes = log.bytes().to_vec(alloc)?;
-    bytes[batch + 49 + 16] = 2;
+    if let Some(byte) = bytes.get_mut(batch + 65) {
+        *byte = 2;
+    }
     let mut turned = deck(alloc, bytes.as_slice(), &[], None)?;
     let mut line = String::from_str(alloc, "log refused: Damaged ")?;
     line.push_str(&format!(in alloc; "{at}\n")?)?;
@@ -221,7 +225,7 @@ fn recordings_that_are_refused(rt: HostRuntime) -> Result<(), Fail> {
 /// A script of so many vectors, of which each changes the data input.
 fn long_script(alloc: Global, vectors: u64) -> Result<String, Fail> {
     let mut script = String::new(alloc);
-    for time in 1..vectors + 1 {
+    for time in 1..=vectors {
         script.push_str(&format!(in alloc; "{time} d={}\n", time % 2)?)?;
     }
     Ok(script)
@@ -249,6 +253,13 @@ fn long_recordings(rt: HostRuntime) -> Result<(), Fail> {
     Ok(())
 }
 
+/// A number with one more decimal digit.
+fn last_digit(number: u64, digit: u8) -> u64 {
+    number
+        .wrapping_mul(10)
+        .wrapping_add(u64::from(digit.wrapping_sub(b'0')))
+}
+
 /// How many vectors a text of whole lines `ack N TIME` acknowledges.
 fn last_count(said: &[u8]) -> u64 {
     let mut count = 0;
@@ -258,13 +269,13 @@ fn last_count(said: &[u8]) -> u64 {
         match *byte {
             b'\n' => words = 0,
             b' ' => {
-                words += 1;
-                if words == 2 {
+                if words == 1 {
                     count = number;
                 }
+                words = if words == 0 { 1 } else { 2 };
                 number = 0;
             }
-            b'0'..=b'9' if words == 1 => number = number * 10 + u64::from(*byte - b'0'),
+            b'0'..=b'9' if words == 1 => number = last_digit(number, *byte),
             _ => {}
         }
     }
