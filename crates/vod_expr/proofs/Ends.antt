@@ -6,6 +6,7 @@ use Rattle.vod_token.specs.declared.TokenKind.TheVariants as kinds
 use Rattle.vod_tree.specs.declared.expr.Expr.{Expr}
 use Rattle.vod_tree.specs.declared.expr.ExprKind.{ExprKind}
 use Rattle.vod_tree.specs.declared.expr.ExprKind.TheVariants as tree_kind
+use Rattle.vod_tree.specs.declared.expr.UnaryOp.{UnaryOp}
 use Rattle.vod_tree.specs.declared.expr.BinaryOp.{BinaryOp}
 use Rattle.vod_tree.specs.declared.ident.Ident.{Ident}
 use Rattle.vod_tree.specs.declared.ident.Number.{Number}
@@ -14,12 +15,13 @@ use Rattle.vod_expr.specs.declared.word.Mark.TheVariants as mark
 use Rattle.vod_expr.specs.declared.machine.Frame.{Frame}
 use Rattle.vod_expr.specs.declared.machine.Head.{Head}
 use Rattle.vod_expr.specs.declared.machine.Head.TheVariants.{Wanted, Bare, Named, Whole, Outer}
-use Rattle.vod_expr.specs.Answer.{EndsExpr, IsRead}
+use Rattle.vod_expr.specs.Answer.{EndsExpr, BeginsNone, IsRead}
 use Rattle.vod_expr.specs.Grammar.{Lexeme, IsExpr, Begins}
-use Rattle.vod_expr.specs.Machine.{mark_text, mark_of, binary_of, machine, reduce, at_close_paren, at_close_bracket, at_comma, at_colon, at_open_brace, at_close_brace, at_part, behind, followed, named, on_mark, on_operator, on_operand, on_symbol, on_kind, run, tree, start}
+use Rattle.vod_expr.specs.Machine.{mark_text, mark_of, unary_of, binary_of, Machine, machine, reduce, at_close_paren, at_close_bracket, at_comma, at_colon, at_open_brace, at_close_brace, at_part, behind, followed, preceded, opened, named, on_mark, on_operator, on_operand, on_symbol, on_kind, step, run, tree, start}
 use Rattle.vod_expr.proofs.Complete.{Knows, Holds, reads}
-use Rattle.vod_expr.proofs.Unique.{run_stops, unread_begins_none}
-use Rattle.vod_expr.proofs.Words.{mark_found, binary_found}
+use Rattle.vod_expr.proofs.Longest.{run_onto}
+use Rattle.vod_expr.proofs.Unique.{expr_runs, run_stops, unread_begins_none}
+use Rattle.vod_expr.proofs.Words.{mark_found, unary_found, binary_found}
 
 -- nothing is begun around the expression
 abbrev Alone : List Frame → ℕ → ExprKind → Type 0
@@ -99,12 +101,20 @@ on_kind_stops value g fs q b holds alone t ends kinds.Symbol kind = on_symbol_st
 on_kind_stops value g fs q b holds alone t ends kinds.Reserved kind = refl
 on_kind_stops value g fs q b holds alone t ends kinds.Directive kind = refl
 
--- so a run is not read past it
-unread : (value : Lexeme → Number) → Knows value → (ts : List Lexeme) (t : Lexeme) (x : Expr) → IsExpr 0 ts x → EndsExpr t → run value start (ts ++ t ∷ []) ≡ None
-unread value knows ts t x d ends =
+-- so the state behind it doesn't go on, and a run is not read past it
+pub stops_behind : (value : Lexeme → Number) → Knows value → (ts : List Lexeme) (x : Expr) → IsExpr 0 ts x → (t : Lexeme) → EndsExpr t → (u : Machine) → run value start ts ≡ Some u → step value u t ≡ None
+stops_behind value knows ts x d t ends u h =
     let r = reads value knows 0 ts x d Wanted [] tt tt in
     let alone : Alone r.state.frames r.last_place r.last = ap (λ v. v.frames) (r.reduces 0 (omega arith)) in
-    r.runs (t ∷ []) ∙ ap (option_and_then (λ v. run value v [])) (on_kind_stops value r.state.head r.state.frames r.last_place r.last r.holds alone t ends t.kind refl)
+    let states : Some u ≡ Some r.state = sym h ∙ ap (run value start) (sym (append-nil ts)) ∙ r.runs [] in
+    let state : u ≡ r.state = cc in
+    ap (λ v. step value v t) state ∙ on_kind_stops value r.state.head r.state.frames r.last_place r.last r.holds alone t ends t.kind refl
+
+unread : (value : Lexeme → Number) → Knows value → (ts : List Lexeme) (t : Lexeme) (x : Expr) → IsExpr 0 ts x → EndsExpr t → run value start (ts ++ t ∷ []) ≡ None
+unread value knows ts t x d ends =
+    let r = expr_runs value knows ts x d in
+    run_onto value start ts (t ∷ []) ∙ ap (option_and_then (λ u. run value u (t ∷ []))) r.runs
+    ∙ ap (option_and_then (λ v. run value v [])) (stops_behind value knows ts x d t ends r.state r.runs)
 
 pub read_before_by : (value : Lexeme → Number) → Knows value → (ts us : List Lexeme) (t : Lexeme) (x : Expr) → IsExpr 0 ts x → EndsExpr t → IsRead (ts ++ t ∷ us) (length ts) x
 read_before_by value knows ts us t x d ends =
@@ -135,3 +145,34 @@ read_before_by value knows ts us t x d ends =
         by_order : (k : ℕ) → m - length ts ≡ k → m ≤ length ts
         by_order zero e = omega arith
         by_order (suc k) e = by_rest m (suc k) (omega arith) b
+
+-- with some tokens no expression begins
+opened_none : (m : Mark) → (mark_text m ≡ codes "(" → ⊥) → (mark_text m ≡ codes "{" → ⊥) → (p : ℕ) → opened m [] p ≡ None
+opened_none mark.OpenParen paren brace p = absurd (paren refl)
+opened_none mark.OpenBrace paren brace p = absurd (brace refl)
+opened_none _ paren brace p = refl
+
+preceded_none : (t : Lexeme) → BeginsNone t → t.kind ≡ kinds.Symbol → (o : Option UnaryOp) → unary_of t.text ≡ o → preceded [] t.place o ≡ None
+preceded_none t none kind None e = refl
+preceded_none t none kind (Some op) e = absurd (none.operator op (kind, unary_found t.text op e))
+
+symbol_none : (t : Lexeme) → BeginsNone t → t.kind ≡ kinds.Symbol → (o : Option Mark) → mark_of t.text ≡ o → on_symbol start t.place t.text o ≡ None
+unfolding on_mark on_operator
+symbol_none t none kind (Some m) e =
+    let spelled = mark_found t.text m e in
+    opened_none m (λ h. none.paren (kind, spelled ∙ h)) (λ h. none.brace (kind, spelled ∙ h)) t.place
+symbol_none t none kind None e = preceded_none t none kind (unary_of t.text) refl
+
+kind_none : (value : Lexeme → Number) (t : Lexeme) → BeginsNone t → (k : TokenKind) → t.kind ≡ k → on_kind k value start t ≡ None
+unfolding on_kind
+kind_none value t none kinds.Number kind = absurd (none.number kind)
+kind_none value t none kinds.Name kind = absurd (none.name kind)
+kind_none value t none kinds.Symbol kind = symbol_none t none kind (mark_of t.text) refl
+kind_none value t none kinds.Reserved kind = refl
+kind_none value t none kinds.Directive kind = refl
+
+pub step_none : (value : Lexeme → Number) (t : Lexeme) → BeginsNone t → step value start t ≡ None
+step_none value t none = kind_none value t none t.kind refl
+
+pub none_begins_by : (value : Lexeme → Number) → Knows value → (t : Lexeme) (ts : List Lexeme) → BeginsNone t → Begins (t ∷ ts) → ⊥
+none_begins_by value knows t ts none b = unread_begins_none value knows (t ∷ ts) (ap (option_and_then (λ u. run value u ts)) (step_none value t none)) b

@@ -9,3 +9,4 @@ pub mod Longest
 pub mod Reducing
 pub mod Taken
 pub mod Ends
+pub mod Answered

@@ -8,7 +8,7 @@ use Rattle.vod_expr.specs.Grammar.{Lexeme, IsExpr, Begins, IsLongest}
 use Rattle.vod_expr.specs.Machine.{Machine, step, run, start, ended}
 use Rattle.vod_expr.specs.Reading.{Stops}
 use Rattle.vod_expr.proofs.Complete.{Knows}
-use Rattle.vod_expr.proofs.Unique.{expr_read, unread_begins_none}
+use Rattle.vod_expr.proofs.Unique.{expr_runs, unread_begins_none}
 use Rattle.vod_expr.proofs.States.{Sure, run_stands, start_stands, ended_stands}
 use Rattle.vod_expr.proofs.Viable.{stands_begins}
 
@@ -63,7 +63,7 @@ read_tree value ts sure u h x e = ended_stands u.head u.frames ts x (run_stands 
 
 pub read_none : (value : Lexeme → Number) → Knows value → (ts : List Lexeme) (u : Machine) → run value start ts ≡ Some u → ended u.head u.frames ≡ None → (x : Expr) → IsExpr 0 ts x → ⊥
 read_none value knows ts u h e x d =
-    let r = expr_read value knows ts x d in
+    let r = expr_runs value knows ts x d in
     let states : Some u ≡ Some r.state = sym h ∙ r.runs in
     let state : u ≡ r.state = cc in
     let clash : None ≡ Some x = sym e ∙ ap (λ v. ended v.head v.frames) state ∙ r.ends in

@@ -7,7 +7,8 @@ use Rattle.vod_token.specs.Span.{IsTokenText}
 use Rattle.vod_token.specs.Word.{is_reserved}
 use Rattle.vod_token.specs.declared.TokenKind.TheVariants as kinds
 use Rattle.vod_token.specs.declared.value.Literal.{Literal}
-use Rattle.vod_expr.specs.Grammar.{Lexeme, IsNumber, number_from}
+use Rattle.vod_tree.specs.declared.ident.Number.{Number}
+use Rattle.vod_expr.specs.Grammar.{Lexeme, IsLexeme, IsNumber, number_from}
 use Rattle.vod_expr.specs.Numerals.{number_of}
 use Rattle.vod_expr.proofs.Complete.{Knows}
 use Rattle.vod_expr.proofs.States.{Sure}
@@ -20,24 +21,25 @@ pub knows : OneLiteral → Knows number_of
 unfolding number_of
 knows one t n isn = ap (number_from t.place) (one t.text isn.1.0 isn.1.1) ∙ sym isn.1.2
 
-own : OneLiteral → (t : Lexeme) → t.kind ≡ kinds.Number → (n : Literal) → StandsFor t.text n → IsNumber t (number_of t)
-own one t kind n stands =
-    let isn : IsNumber t (number_from t.place n) = (kind, (n, stands, refl)) in
-    subst (IsNumber t) (sym (knows one t (number_from t.place n) isn)) isn
-
 word_is_none : (b : Bool) → kinds.Number ≡ cond b kinds.Reserved kinds.Name → ⊥
 word_is_none true h = cc
 word_is_none false h = cc
 
-by_form : OneLiteral → (t : Lexeme) → t.kind ≡ kinds.Number → (form : Form) → IsSpelled t.text form → t.kind ≡ kind_of t.text form → IsNumber t (number_of t)
-by_form one t k Word spelled is = absurd (word_is_none (is_reserved t.text) (sym k ∙ is))
-by_form one t k (Plain value) spelled is = own one t k (literal 32 true value) (Plain value, spelled, refl)
-by_form one t k (Based size signed value) spelled is = own one t k (literal size signed (value % (2 ^ size))) (Based size signed value, spelled, refl)
-by_form one t k Directive spelled is = let clash : kinds.Number ≡ kinds.Directive = sym k ∙ is in cc
-by_form one t k Symbol spelled is = let clash : kinds.Number ≡ kinds.Symbol = sym k ∙ is in cc
+stands : (t : Lexeme) → t.kind ≡ kinds.Number → (n : Literal) → StandsFor t.text n → (x : Number) × IsNumber t x
+stands t kind n is = (number_from t.place n, (kind, (n, is, refl)))
 
-pub sure : OneLiteral → (t : Lexeme) → IsTokenText t.text t.kind → Sure number_of t
-sure one t is = λ k. by_form one t k is.form is.spelled is.is
+by_form : (t : Lexeme) → t.kind ≡ kinds.Number → (form : Form) → IsSpelled t.text form → t.kind ≡ kind_of t.text form → (x : Number) × IsNumber t x
+by_form t k Word spelled is = absurd (word_is_none (is_reserved t.text) (sym k ∙ is))
+by_form t k (Plain value) spelled is = stands t k (literal 32 true value) (Plain value, spelled, refl)
+by_form t k (Based size signed value) spelled is = stands t k (literal size signed (value % (2 ^ size))) (Based size signed value, spelled, refl)
+by_form t k Directive spelled is = let clash : kinds.Number ≡ kinds.Directive = sym k ∙ is in cc
+by_form t k Symbol spelled is = let clash : kinds.Number ≡ kinds.Symbol = sym k ∙ is in cc
+
+pub numbered : (t : Lexeme) → IsTokenText t.text t.kind → IsLexeme t
+numbered t is = λ k. by_form t k is.form is.spelled is.is
+
+pub own_number : OneLiteral → (t : Lexeme) → IsLexeme t → Sure number_of t
+own_number one t is = λ k. let n = is k in subst (IsNumber t) (sym (knows one t n.0 n.1)) n.1
 
 pub number_is : OneLiteral → (text : List ℕ) (place : ℕ) (n : Literal) → StandsFor text n → number_from place n ≡ number_of (record { kind = kinds.Number; text = text; place = place })
 unfolding number_of

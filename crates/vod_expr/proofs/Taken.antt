@@ -1,25 +1,22 @@
 -- What the loop over the tokens keeps, and what is then answered.
-use Rattle.std.proofs.Common.{◌≡◌, ℕ, zero, suc, ◌+◌, ◌<◌, Bool, true, false, List, [], ◌∷◌, ◌++◌, map, length, take, drop, get_or, Option, None, Some, Result, Ok, Err, option_and_then, refl, ap, sym, subst, ◌∙◌, arith}
+use Rattle.std.proofs.Common.{◌≡◌, ℕ, suc, ◌+◌, ◌<◌, Bool, true, false, List, [], ◌∷◌, ◌++◌, map, length, take, drop, get_or, Option, None, Some, Result, Ok, Err, option_and_then, refl, ap, sym, subst, ◌∙◌, arith}
 use Rattle.std.proofs.Math.Seq.{drop-cons}
 use Rattle.std.proofs.lemmas.List.{take-map, drop-map, take_more, length-map, drop_all, map-append}
 use Rattle.std.specs.declared.alloc.AllocError.{AllocError}
-use Rattle.std.specs.List.{AllByRecursion}
-use Rattle.std.specs.Prelude.{All, IfOk, IfErr, MatchResult, ◌≢◌}
-use Rattle.vod_token.specs.Span.{IsTokenOf}
+use Rattle.std.specs.Prelude.{IfOk, IfErr, MatchResult, ◌≢◌}
 use Rattle.vod_token.specs.declared.Token.{Token}
 use Rattle.vod_tree.specs.declared.expr.Expr.{Expr}
 use Rattle.vod_expr.specs.declared.ParseFault.{ParseFault}
 use Rattle.vod_expr.specs.declared.ParseFault.TheVariants.{At, End, Statement, Memory}
 use Rattle.vod_expr.specs.declared.machine.Reader.{Reader}
-use Rattle.vod_expr.specs.Answer.{fault_at, IsRead, IsRefused}
+use Rattle.vod_expr.specs.Answer.{fault_at, IsRead, IsRefused, tree_or_fault, expr_read}
 use Rattle.vod_expr.specs.Grammar.{Lexeme, lexeme, lexemes, IsExpr, IsLongest}
 use Rattle.vod_expr.specs.Machine.{Machine, step, run, start, ended}
 use Rattle.vod_expr.specs.Numerals.{number_of}
 use Rattle.vod_expr.specs.Reading.{Stops, Reads, fault_from, answered}
 use Rattle.vod_expr.specs.View.{frames_of, state_of, Gives}
-use Rattle.vod_expr.proofs.Longest.{run_onto, read_longest, read_tree, read_none}
-use Rattle.vod_expr.proofs.Numerals.{OneLiteral, knows, sure}
-use Rattle.vod_expr.proofs.States.{Sure}
+use Rattle.vod_expr.proofs.Answered.{Right, read_is}
+use Rattle.vod_expr.proofs.Longest.{run_onto}
 
 -- what a step says, where it went on and where it didn't
 pub went_on : (b : Bool) (expected : Option Machine) (tree : Option Expr) (new : Reader) → b ≡ true → Gives {E = AllocError} (Ok b) expected tree new → expected ≡ Some (state_of new)
@@ -71,41 +68,33 @@ stops_last source ts i e reader h =
       tree = refl;
     }
 
--- the numbers of the tokens of a source are their own
-all_sure : OneLiteral → (source : List ℕ) (ts : List Token) → All (IsTokenOf source) ts → AllByRecursion (Sure number_of) (lexemes source ts)
-all_sure one source [] h = tt
-all_sure one source (t ∷ ts) h = (sure one (lexeme source t) (h 0 t (omega arith)).text, all_sure one source ts (λ k d lt. h (suc k) d (omega arith)))
-
-front_sure : (n : ℕ) (ts : List Lexeme) → AllByRecursion (Sure number_of) ts → AllByRecursion (Sure number_of) (take n ts)
-front_sure zero ts h = tt
-front_sure (suc n) [] h = tt
-front_sure (suc n) (t ∷ ts) h = (h.0, front_sure n ts h.1)
-
-reads_longest : OneLiteral → (source : List ℕ) (ts : List Token) → All (IsTokenOf source) ts → (n : ℕ) (reader : Reader) → Reads (lexemes source ts) n reader → IsLongest (lexemes source ts) n
-reads_longest one source ts tokens n reader r =
-    read_longest number_of (knows one) (lexemes source ts) n r.within (front_sure n (lexemes source ts) (all_sure one source ts tokens)) r.state r.runs r.stops
+-- what is answered: the function's answer, in the reader's list of tokens
+abbrev pub Answers : ℕ → List Lexeme → Result (Expr × ℕ) ParseFault → Type 0
+Answers from ts r = MatchResult r (λ read. (n : ℕ) × (read.1 ≡ from + n) × (expr_read ts ≡ Ok (read.0, n))) (λ fault. (fault ≢ Memory) → expr_read ts ≡ Err fault)
 
 same_fault : (source : List ℕ) (ts : List Token) → fault_from ts ≡ fault_at (lexemes source ts)
 same_fault source [] = refl
 same_fault source (t ∷ ts) = refl
 
--- what is answered
-pub answers_ok : OneLiteral → (source : List ℕ) (ts : List Token) → All (IsTokenOf source) ts → (from n : ℕ) (reader : Reader) → Reads (lexemes source ts) n reader
-    → (o : Option Expr) → o ≡ ended reader.head (frames_of reader) → IfOk (answered o (from + n) (drop n ts)) (λ read. (x : ℕ) × (read.1 ≡ from + x) × IsRead (lexemes source ts) x read.0)
-answers_ok one source ts tokens from n reader r None e = tt
-answers_ok one source ts tokens from n reader r (Some x) e =
-    let sure_front = front_sure n (lexemes source ts) (all_sure one source ts tokens) in
-    (n, refl, record { longest = reads_longest one source ts tokens n reader r; expr = read_tree number_of (take n (lexemes source ts)) sure_front r.state r.runs x (sym r.tree ∙ sym e) })
+by_tree : (source : List ℕ) (ts : List Token) (from n : ℕ) (o : Option Expr) → expr_read (lexemes source ts) ≡ tree_or_fault o n (drop n (lexemes source ts)) → Answers from (lexemes source ts) (answered o (from + n) (drop n ts))
+by_tree source ts from n None h = λ _. h ∙ ap Err (ap fault_at (drop-map (lexeme source) n ts) ∙ sym (same_fault source (drop n ts)))
+by_tree source ts from n (Some x) h = (n, refl, h)
 
-pub answers_err : OneLiteral → (source : List ℕ) (ts : List Token) → All (IsTokenOf source) ts → (from n : ℕ) (reader : Reader) → Reads (lexemes source ts) n reader
-    → (o : Option Expr) → o ≡ ended reader.head (frames_of reader) → IfErr (answered o (from + n) (drop n ts)) (λ fault. (fault ≢ Memory) → IsRefused (lexemes source ts) fault)
-answers_err one source ts tokens from n reader r None e = λ _. record {
-  taken = n;
-  longest = reads_longest one source ts tokens n reader r;
-  none = read_none number_of (knows one) (take n (lexemes source ts)) r.state r.runs (sym r.tree ∙ sym e);
-  fault = same_fault source (drop n ts) ∙ ap fault_at (sym (drop-map (lexeme source) n ts));
-}
-answers_err one source ts tokens from n reader r (Some x) e = tt
+pub answers_by : (source : List ℕ) (ts : List Token) (from n : ℕ) (reader : Reader) → Reads (lexemes source ts) n reader
+    → (o : Option Expr) → o ≡ ended reader.head (frames_of reader) → Answers from (lexemes source ts) (answered o (from + n) (drop n ts))
+answers_by source ts from n reader r o e =
+    by_tree source ts from n o
+    (read_is (lexemes source ts) n (record { within = r.within; state = r.state; runs = r.runs; stops = r.stops })
+    ∙ ap (λ v. tree_or_fault v n (drop n (lexemes source ts))) (sym r.tree ∙ sym e))
+
+-- which is right
+pub ok_by : (ts : List Lexeme) (from : ℕ) (r : Result (Expr × ℕ) ParseFault) → Right ts (expr_read ts) → Answers from ts r → IfOk r (λ read. (x : ℕ) × (read.1 ≡ from + x) × IsRead ts x read.0)
+ok_by ts from (Ok read) right is = (is.0, is.1, subst (Right ts) is.2 right)
+ok_by ts from (Err fault) right is = tt
+
+pub err_by : (ts : List Lexeme) (from : ℕ) (r : Result (Expr × ℕ) ParseFault) → Right ts (expr_read ts) → Answers from ts r → IfErr r (λ fault. (fault ≢ Memory) → IsRefused ts fault)
+err_by ts from (Ok read) right is = tt
+err_by ts from (Err fault) right is = λ ne. subst (Right ts) (is ne) right
 
 -- each run has one answer
 abbrev pub OneTree : Type 0

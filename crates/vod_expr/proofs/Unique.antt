@@ -27,8 +27,8 @@ pub record IsReadTo (value : Lexeme → Number) (ts : List Lexeme) (x : Expr) : 
   pub runs : run value start ts ≡ Some state
   pub ends : ended (state.head) (state.frames) ≡ Some x
 
-pub expr_read : (value : Lexeme → Number) → Knows value → (ts : List Lexeme) (x : Expr) → IsExpr 0 ts x → IsReadTo value ts x
-expr_read value knows ts x d =
+pub expr_runs : (value : Lexeme → Number) → Knows value → (ts : List Lexeme) (x : Expr) → IsExpr 0 ts x → IsReadTo value ts x
+expr_runs value knows ts x d =
     let r = reads value knows 0 ts x d Wanted [] tt tt in
     record {
       state = r.state;
@@ -38,8 +38,8 @@ expr_read value knows ts x d =
 
 pub one_tree_by : (value : Lexeme → Number) → Knows value → (ts : List Lexeme) (a b : Expr) → IsExpr 0 ts a → IsExpr 0 ts b → a ≡ b
 one_tree_by value knows ts a b d d' =
-    let x = expr_read value knows ts a d in
-    let y = expr_read value knows ts b d' in
+    let x = expr_runs value knows ts a d in
+    let y = expr_runs value knows ts b d' in
     let states : Some x.state ≡ Some y.state = sym x.runs ∙ y.runs in
     let state : x.state ≡ y.state = cc in
     let trees : Some a ≡ Some b = sym x.ends ∙ ap (λ v. ended v.head v.frames) state ∙ y.ends in
@@ -57,6 +57,6 @@ run_stops value s (t ∷ ts) us h = by_step (step value s t) h (λ u. run_stops 
 -- a run that isn't read begins no expression
 pub unread_begins_none : (value : Lexeme → Number) → Knows value → (ts : List Lexeme) → run value start ts ≡ None → Begins ts → ⊥
 unread_begins_none value knows ts h begins =
-    let r = expr_read value knows (ts ++ begins.0) begins.1 begins.2 in
+    let r = expr_runs value knows (ts ++ begins.0) begins.1 begins.2 in
     let clash : None ≡ Some r.state = sym (run_stops value start ts begins.0 h) ∙ r.runs in
     cc

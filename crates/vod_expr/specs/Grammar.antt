@@ -46,6 +46,10 @@ number_from place n = record { place = place; size = n.size; signed = n.signed; 
 abbrev pub IsNumber : Lexeme → Number → Type 0
 IsNumber t n = (t.kind ≡ kinds.Number) × ((literal : Literal) × StandsFor t.text literal × (n ≡ number_from t.place literal))
 
+-- a token of a source, as far as expressions see it: a number stands for one
+abbrev pub IsLexeme : Lexeme → Type 0
+IsLexeme t = t.kind ≡ kinds.Number → (n : Number) × IsNumber t n
+
 -- a tree at a place
 abbrev pub at : ℕ → ExprKind → Expr
 at place kind = roll-Expr (record { place = place; kind = kind })

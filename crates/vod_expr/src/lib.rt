@@ -8,10 +8,13 @@ mod read;
 mod tests;
 mod word;
 
-ghost use Rattle.std.specs.Prelude.{◌≡◌, ◌∷◌, ◌++◌, List, ℕ, length};
+ghost use Rattle.std.specs.Prelude.{◌≡◌, ◌≤◌, ◌<◌, ◌∷◌, ◌++◌, List, ℕ, length, drop, All, Ok, Err, MatchResult};
+ghost use Rattle.vod_token.specs.Span.{IsTokenOf};
+ghost use Rattle.vod_token.specs.declared.Token.{Token};
 ghost use Rattle.vod_tree.specs.declared.expr.Expr.{Expr};
-ghost use Rattle.vod_expr.specs.Answer.{EndsExpr, IsRead};
-ghost use Rattle.vod_expr.specs.Grammar.{Lexeme, IsExpr, IsLongest};
+ghost use Rattle.vod_expr.specs.Answer.{BeginsNone, EndsExpr, IsRead, IsRefused, expr_len, expr_read, fault_at};
+ghost use Rattle.vod_expr.specs.Grammar.{Lexeme, Begins, IsExpr, IsLexeme, IsLongest, lexemes};
+ghost use Rattle.vod_expr.specs.declared.ParseFault.{ParseFault};
 
 pub use read::read_expr;
 use std::alloc::AllocError;
@@ -59,3 +62,43 @@ pub fn read_before()
 {
     one_literal();
 }
+
+/// Each list of tokens has one answer, and it is right: the tree of the longest front with which some expression begins and
+/// the number of its tokens, which is at least 1; or, where that front is no expression, the fault at the token behind it.
+pub fn one_answer()
+    ensures right { (ts : List Lexeme) → All IsLexeme ts →
+        MatchResult (expr_read ts) (λ read. IsRead ts read.1 read.0) (λ fault. IsRefused ts fault) }
+    ensures longest { (ts : List Lexeme) → All IsLexeme ts → IsLongest ts (expr_len ts) }
+    ensures place { (ts : List Lexeme) → MatchResult (expr_read ts) (λ read. read.1 ≡ expr_len ts) (λ fault. fault ≡ fault_at (drop (expr_len ts) ts)) }
+    ensures within { (ts : List Lexeme) → expr_len ts ≤ length ts }
+    ensures some { (ts : List Lexeme) (tree : Expr) (n : ℕ) → expr_read ts ≡ Ok (tree, n) → 0 < n }
+{
+    one_literal();
+}
+
+/// The answer on an expression that stands at the end, or before a token with which none goes on, is that expression.
+pub fn answer_before()
+    ensures last { (ts : List Lexeme) (tree : Expr) → IsExpr 0 ts tree → expr_read ts ≡ Ok (tree, length ts) }
+    ensures before { (ts us : List Lexeme) (t : Lexeme) (tree : Expr) → IsExpr 0 ts tree → EndsExpr t → expr_read (ts ++ t ∷ us) ≡ Ok (tree, length ts) }
+{
+    one_literal();
+}
+
+/// An answer hangs on the tokens taken and the one behind them, and on no further one.
+pub fn one_ahead()
+    ensures len { (front rest other : List Lexeme) (t : Lexeme) → expr_len (front ++ t ∷ rest) ≡ length front → expr_len (front ++ t ∷ other) ≡ length front }
+    ensures answer { (front rest other : List Lexeme) (t : Lexeme) → expr_len (front ++ t ∷ rest) ≡ length front → expr_read (front ++ t ∷ other) ≡ expr_read (front ++ t ∷ rest) }
+{}
+
+/// No expression begins with a token that is no name, number, operator before a primary, `(` or `{`, and it is refused.
+pub fn none_begins()
+    ensures none { (t : Lexeme) (ts : List Lexeme) → BeginsNone t → Begins (t ∷ ts) → ⊥ }
+    ensures refused { (t : Lexeme) (ts : List Lexeme) → BeginsNone t → expr_read (t ∷ ts) ≡ Err (ParseFault.At t.place) }
+{
+    one_literal();
+}
+
+/// What these laws ask of tokens holds of those of a source.
+pub fn source_lexemes()
+    ensures { (source : List ℕ) (ts : List Token) → All (IsTokenOf source) ts → All IsLexeme (lexemes source ts) }
+{}

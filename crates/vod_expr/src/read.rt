@@ -1,9 +1,9 @@
 //! The longest run of tokens with which an expression begins.
 
-ghost use Rattle.std.specs.Prelude.{◌≡◌, ◌≢◌, ◌≤◌, ◌+◌, ℕ, length, take, drop, All, IfOk, IfErr, MatchResult};
+ghost use Rattle.std.specs.Prelude.{◌≡◌, ◌≢◌, ◌≤◌, ◌+◌, ℕ, length, take, drop, All, Ok, Err, IfOk, IfErr, MatchResult};
 ghost use Rattle.vod_token.specs.Span.{IsTokenOf};
 ghost use Rattle.vod_tree.specs.declared.expr.Expr.{Expr};
-ghost use Rattle.vod_expr.specs.Answer.{IsRead, IsRefused, fault_at};
+ghost use Rattle.vod_expr.specs.Answer.{IsRead, IsRefused, expr_read};
 ghost use Rattle.vod_expr.specs.Grammar.{IsExpr, IsLongest, lexemes};
 ghost use Rattle.vod_expr.specs.Machine.{start};
 ghost use Rattle.vod_expr.specs.Reading.{Reads, fault_from, answered};
@@ -11,9 +11,9 @@ ghost use Rattle.vod_expr.specs.View.{state_of};
 ghost use Rattle.vod_expr.specs.declared.ParseFault.{ParseFault};
 
 use crate::machine::Reader;
-use crate::{ParseFault, one_tree};
+use crate::{ParseFault, one_answer, one_tree, source_lexemes};
 use std::alloc::{AllocError, Global};
-use vod_token::{Token, one_literal};
+use vod_token::Token;
 use vod_tree::Expr;
 
 /// Takes the longest run of tokens from the place `from` of the list on with which some expression begins (IEEE 1364-2005,
@@ -35,8 +35,15 @@ pub fn read_expr(
         MatchResult result (λ read. (read.0 ≡ tree) × (read.1 ≡ from + n)) (λ fault. fault ≡ ParseFault.Memory) }
     ensures refuses { (fault : ParseFault) → IsRefused (lexemes source.now (drop from tokens.now)) fault →
         MatchResult result (λ read. ⊥) (λ other. (other ≢ ParseFault.Memory) → other ≡ fault) }
+
+    // The same as one function: the answer on the tokens from there on.
+    ensures answer { MatchResult result
+        (λ read. (n : ℕ) × (read.1 ≡ from + n) × (expr_read (lexemes source.now (drop from tokens.now)) ≡ Ok (read.0, n)))
+        (λ fault. (fault ≢ ParseFault.Memory) → expr_read (lexemes source.now (drop from tokens.now)) ≡ Err fault) }
 {
     one_tree();
+    one_answer();
+    source_lexemes();
     read_from(alloc, source, tokens, from)
 }
 
@@ -49,10 +56,10 @@ fn read_from(
 ) -> Result<(Expr, usize), ParseFault>
     requires from { from ≤ length tokens.now }
     requires tokens { All (IsTokenOf source.now) tokens.now }
-    ensures ok { IfOk result (λ read. (n : ℕ) × (read.1 ≡ from + n) × IsRead (lexemes source.now (drop from tokens.now)) n read.0) }
-    ensures err { IfErr result (λ fault. (fault ≢ ParseFault.Memory) → IsRefused (lexemes source.now (drop from tokens.now)) fault) }
+    ensures { MatchResult result
+        (λ read. (n : ℕ) × (read.1 ≡ from + n) × (expr_read (lexemes source.now (drop from tokens.now)) ≡ Ok (read.0, n)))
+        (λ fault. (fault ≢ ParseFault.Memory) → expr_read (lexemes source.now (drop from tokens.now)) ≡ Err fault) }
 {
-    one_literal();
     let run = rest_from(tokens, from);
     let mut reader = Reader::new(alloc);
     let taken = take_run(alloc, source, run, &mut reader)?;
