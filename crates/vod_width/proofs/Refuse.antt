@@ -1,0 +1,114 @@
+-- What `size` and `constant` answer.
+use Rattle.std.proofs.Common.{◌≡◌, ℕ, ◌≤◌, min, max, nat_lt, Bool, true, false, ◌&&◌, cond, List, [], ◌∷◌, ◌++◌, Option, None, Some, Result, Ok, Err, IfSome, refl, sym, ◌∙◌, ap, subst, arith}
+use Rattle.std.specs.Prelude.{MatchResult}
+use Rattle.std.specs.List.{All, Contains}
+use Rattle.std.proofs.lemmas.Bool.Decides.{nat_tests}
+use Rattle.std.proofs.lemmas.List.Elements.{All-nil, All-cons, Contains-append_right}
+use Rattle.vod_bits.specs.Bit.{Bit}
+use Rattle.vod_bits.specs.Value.{all_known}
+use Rattle.vod_design.specs.declared.sized.SizedExpr.{SizedExpr}
+use Rattle.vod_design.specs.Run.{eval, nothing}
+use Rattle.vod_width.specs.declared.types.Constant.{Constant}
+use Rattle.vod_width.specs.declared.types.Fault.{Fault}
+use Rattle.vod_width.specs.declared.types.Fault.TheVariants.{Rule, Width}
+use Rattle.vod_width.specs.declared.types.WidthFault.{WidthFault}
+use Rattle.vod_width.specs.declared.types.WidthFault.TheVariants as refusals
+use Rattle.vod_width.specs.declared.tree.Looked as code
+use Rattle.vod_width.specs.Sizes.{Looked, own, place_of, sooner, first, are_none, is_sound, value, in_context, constant_faults}
+use Rattle.vod_width.specs.View.{SeesAs, IsNarrow, join}
+use Rattle.vod_width.specs.Refusals.{Refused, HasNoValue, refusal_of, fault_beside}
+use Rattle.vod_width.proofs.Trees.{first_append}
+use Rattle.vod_width.proofs.Numbers.{here, gone, unsound, first_nothing}
+
+pub sized_here : (c : code.Looked) (x : Looked) (e : SizedExpr) (context w own_width : ℕ) (s : Bool) → Ok e ≡ c.tree → SeesAs c x (x.sized w s) → IsNarrow x → w ≡ max context own_width → own_width ≡ min x.width 65 → s ≡ x.signed
+    → (x.faults ≡ []) × (e ≡ in_context context x)
+sized_here c x e context w own_width s t h n p q r =
+    let found = here c x e (x.sized w s) t h in
+    let narrow = n (ap first found.0) in
+    let exact : w ≡ max context x.width = omega (arith, p, q, narrow) in
+    (found.0, found.1 ∙ ap (λ k. x.sized k s) exact ∙ ap (x.sized (max context x.width)) r)
+
+pub refused : (f : Fault) (fs : List Fault) → first fs ≡ Some f → Refused (refusal_of f) fs
+refused (Rule place) fs h = h
+refused (Width place) fs h = h
+
+-- an expression with a fault inside that has to be constant
+beside_first : (k b a : Bool) (fs : List Fault) (f : Fault) (place : ℕ) → first fs ≡ Some f → b ≡ false → first (fs ++ cond (k && cond b a true) [] (Rule place ∷ [])) ≡ Some (fault_beside f k place)
+beside_first k true a fs f place h e = absurd (cc)
+beside_first true false a fs f place h e = first_nothing fs ∙ h
+beside_first false false a fs f place h e = first_append fs (Rule place ∷ []) ∙ ap (λ z. join z (Some (Rule place))) h
+
+pub constant_gone : (c : code.Looked) (y : Looked) (f : Fault) → Err f ≡ c.tree → SeesAs c y (own y) → Refused (refusal_of (fault_beside f c.constant c.place)) (constant_faults y)
+constant_gone c y f t h =
+    let inner = gone c y f (own y) t h in
+    let whole : first (constant_faults y) ≡ Some (fault_beside f y.constant y.place) = beside_first y.constant (is_sound y) (all_known (value y)) y.faults f y.place inner (unsound y.faults f inner) in
+    refused (fault_beside f c.constant c.place) (constant_faults y) (whole ∙ ap (λ k. Some (fault_beside f k y.place)) (sym h.constant) ∙ ap (λ p. Some (fault_beside f c.constant p)) (sym h.place))
+
+-- one without a fault inside
+no_fault : (fs : List Fault) (k b a : Bool) (place : ℕ) → fs ≡ [] → k ≡ true → a ≡ true → fs ++ cond (k && cond b a true) [] (Rule place ∷ []) ≡ []
+no_fault fs true true true place h k a = ap (λ z. z ++ []) h
+no_fault fs true false true place h k a = ap (λ z. z ++ []) h
+no_fault fs true b false place h k a = absurd (cc)
+no_fault fs false b a place h k e = absurd (cc)
+
+one_fault : (fs : List Fault) (k b a : Bool) (place p : ℕ) → fs ≡ [] → b ≡ true → (k && a) ≡ false → p ≡ place → first (fs ++ cond (k && cond b a true) [] (Rule place ∷ [])) ≡ Some (Rule p)
+one_fault fs k false a place p h b n e = absurd (cc)
+one_fault fs true true true place p h b n e = absurd (cc)
+one_fault fs true true false place p h b n e = ap (λ z. first (z ++ Rule place ∷ [])) h ∙ ap (λ q. Some (Rule q)) (sym e)
+one_fault fs false true a place p h b n e = ap (λ z. first (z ++ Rule place ∷ [])) h ∙ ap (λ q. Some (Rule q)) (sym e)
+
+-- what `known` ensures of a tree
+abbrev pub IsKnown : Result Constant WidthFault → List Bit → Bool → Bool → ℕ → Type 0
+IsKnown r v k s place = MatchResult r (λ c. (k ≡ true) × (all_known v ≡ true) × (c.value ≡ v) × (c.signed ≡ s)) (λ f. HasNoValue f (k && all_known v) place)
+
+abbrev pub IsConstant : Result Constant WidthFault → Looked → Type 0
+IsConstant r y = MatchResult r (λ c. (constant_faults y ≡ []) × (c.value ≡ value y) × (c.signed ≡ y.signed)) (λ f. Refused f (constant_faults y))
+
+known_is : (r : Result Constant WidthFault) (y : Looked) → y.faults ≡ [] → IsKnown r (value y) y.constant y.signed y.place → IsConstant r y
+known_is (Ok c) y e h = (no_fault y.faults y.constant (is_sound y) (all_known (value y)) y.place e h.0 h.1, h.2, h.3)
+known_is (Err (refusals.Rule p)) y e h = one_fault y.faults y.constant (is_sound y) (all_known (value y)) y.place p e (ap are_none e) h.0 h.1
+known_is (Err (refusals.Width p)) y e h = absurd h
+known_is (Err refusals.Memory) y e h = tt
+
+pub constant_here : (r : Result Constant WidthFault) (c : code.Looked) (y : Looked) (e : SizedExpr) → Ok e ≡ c.tree → SeesAs c y (own y) → IsKnown r (eval [] nothing [] e) c.constant c.signed c.place → IsConstant r y
+constant_here r c y e t h known =
+    let found = here c y e (own y) t h in
+    let A : SizedExpr → Type 0 = λ u. IsKnown r (eval [] nothing [] u) c.constant c.signed c.place in
+    let B : Bool → Type 0 = λ k. IsKnown r (value y) k c.signed c.place in
+    let C : Bool → Type 0 = λ s. IsKnown r (value y) y.constant s c.place in
+    let D : ℕ → Type 0 = λ p. IsKnown r (value y) y.constant y.signed p in
+    known_is r y found.0 (subst D h.place (subst C h.signed (subst B h.constant (subst A found.1 known))))
+
+-- the first fault is the least
+least_if : (t : Bool) (x g : Fault) (n : ℕ) → t ≡ nat_lt (place_of g) (place_of x) → IfSome (cond t (Some g) (Some x)) (λ f. n ≤ place_of f) → (n ≤ place_of x) × (n ≤ place_of g)
+least_if true x g n e h = (grind (arith, nat_tests), h)
+least_if false x g n e h = (h, grind (arith, nat_tests))
+
+least_step : (x : Fault) (fs : List Fault) (n : ℕ) (o : Option Fault) → (IfSome o (λ g. n ≤ place_of g) → All (λ g. n ≤ place_of g) fs) → IfSome (sooner x o) (λ g. n ≤ place_of g) → All (λ g. n ≤ place_of g) (x ∷ fs)
+least_step x fs n None ih h = All-cons (λ g. n ≤ place_of g) x fs h (ih tt)
+least_step x fs n (Some g) ih h = let both = least_if (nat_lt (place_of g) (place_of x)) x g n refl h in All-cons (λ g. n ≤ place_of g) x fs both.0 (ih both.1)
+
+pub at_least : (fs : List Fault) (n : ℕ) → IfSome (first fs) (λ g. n ≤ place_of g) → All (λ g. n ≤ place_of g) fs
+at_least [] n h = All-nil (λ g. n ≤ place_of g)
+at_least (x ∷ fs) n h = least_step x fs n (first fs) (at_least fs n) h
+
+head_in : (x f : Fault) (fs : List Fault) → x ≡ f → Contains (x ∷ fs) f
+head_in x f fs e = (0, omega arith, e)
+
+in_if : (t : Bool) (x g f : Fault) (fs : List Fault) → Contains fs g → cond t (Some g) (Some x) ≡ Some f → Contains (x ∷ fs) f
+in_if true x g f fs h e = let same : g ≡ f = cc in let P : Fault → Type 0 = λ z. Contains (x ∷ fs) z in subst P same (Contains-append_right (x ∷ []) fs g h)
+in_if false x g f fs h e = let same : x ≡ f = cc in head_in x f fs same
+
+in_step : (x f : Fault) (fs : List Fault) (o : Option Fault) → ((g : Fault) → o ≡ Some g → Contains fs g) → sooner x o ≡ Some f → Contains (x ∷ fs) f
+in_step x f fs None ih e = let same : x ≡ f = cc in head_in x f fs same
+in_step x f fs (Some g) ih e = in_if (nat_lt (place_of g) (place_of x)) x g f fs (ih g refl) e
+
+pub first_in : (fs : List Fault) (f : Fault) → first fs ≡ Some f → Contains fs f
+first_in [] f h = absurd (cc)
+first_in (x ∷ fs) f h = in_step x f fs (first fs) (first_in fs) h
+
+pub first_least : (fs : List Fault) (f : Fault) → first fs ≡ Some f → Contains fs f × All (λ g. place_of f ≤ place_of g) fs
+first_least fs f h =
+    let P : Option Fault → Type 0 = λ o. IfSome o (λ g. place_of f ≤ place_of g) in
+    let here : place_of f ≤ place_of f = omega arith in
+    (first_in fs f h, at_least fs (place_of f) (subst P (sym h) here))

@@ -1,0 +1,104 @@
+-- Selects at constant indices, and at values.
+use Rattle.std.proofs.Common.{◌≡◌, ℕ, ◌-◌, ◌≤◌, ◌<◌, min, nat_lt, nat_le, Bool, true, false, ◌&&◌, cond, [], ◌++◌, Option, None, Some, Result, Ok, Err, refl, sym, ◌∙◌, ap, subst, arith}
+use Rattle.std.proofs.lemmas.Bool.Decides.{nat_tests}
+use Rattle.vod_design.specs.declared.sized.SizedExpr.{SizedExpr}
+use Rattle.vod_design.specs.declared.sized.SizedKind.TheVariants as kind
+use Rattle.vod_width.specs.declared.decls.Declared.TheVariants as stands
+use Rattle.vod_width.specs.declared.decls.Vector.{Vector}
+use Rattle.vod_width.specs.declared.decls.WordArray.{WordArray}
+use Rattle.vod_width.specs.declared.types.Fault.{Fault}
+use Rattle.vod_width.specs.declared.tree.Looked as code
+use Rattle.vod_width.specs.Sizes.{Looked, node, own, first, natural, meets, number_where, unless, or_zero, in_vector, in_memory, look_index}
+use Rattle.vod_width.specs.View.{TreeIs, Sees, SeesAs, looked_of, known_natural, part_fault_of, kept, is_found, tree_unless, bit_index_tree, word_index_tree}
+use Rattle.vod_width.proofs.Numbers.{kept_is, part_fault_is, Passed, passed, unless_is, first_nothing}
+
+pub sees_of : (c : code.Looked) (x : Looked) (w : ℕ) (s k : Bool) (t : Result SizedExpr Fault) → c ≡ looked_of 0 w s k t → 0 ≡ x.place → w ≡ min x.width 65 → s ≡ x.signed → k ≡ x.constant
+    → TreeIs t (first x.faults) (x.sized 0 false) → Sees c x
+sees_of c x w s k t e place width signed constant tree =
+    let P : code.Looked → Type 0 = λ d. Sees d x in
+    subst P (sym e) (record { place = place; width = width; signed = signed; constant = constant; tree = tree })
+
+found_if : (b : Bool) (n : ℕ) → is_found (cond b (Some n) None) ≡ b
+found_if true n = refl
+found_if false n = refl
+
+found_kept : (test : ℕ → Bool) (n : Option ℕ) → is_found (kept test n) ≡ meets test n
+found_kept test None = refl
+found_kept test (Some n) = found_if (test n) n
+
+pub number_step : (test : ℕ → Bool) (c : code.Looked) (y : Looked) (n m : Option ℕ) (found : Bool) (fault : Option Fault) → n ≡ known_natural y → m ≡ kept test n → found ≡ is_found m
+    → fault ≡ part_fault_of found c.place c.tree → SeesAs c y (own y) → fault ≡ first (y.faults ++ unless test y)
+number_step test c y n m found fault nn mm f e s =
+    e ∙ ap (λ b. part_fault_of b c.place c.tree) (f ∙ ap is_found mm ∙ found_kept test n ∙ ap (meets test) nn) ∙ part_fault_is test c y (own y) s
+
+pub number_is : (test : ℕ → Bool) (y : Looked) (n m : Option ℕ) → n ≡ known_natural y → m ≡ kept test n → m ≡ number_where test y
+number_is test y n m nn mm = mm ∙ ap (kept test) nn ∙ kept_is test y
+
+pub passed_where : (test : ℕ → Bool) (y : Looked) (p : Passed test y) → number_where test y ≡ Some p.number
+passed_where test y p = sym (kept_is test y) ∙ ap (kept test) p.known ∙ ap (λ b. cond b (Some p.number) None) p.holds
+
+within_vector : (r a b : Bool) → (r && (a && b)) ≡ true → b ≡ true
+within_vector true true b h = h
+within_vector true false b h = absurd (cc)
+within_vector false a b h = absurd (cc)
+
+pub low_in_vector : (v : Vector) (n : ℕ) → in_vector v n ≡ true → n - v.lsb < v.width
+low_in_vector v n h = let t = within_vector v.ranged (nat_le v.lsb n) (nat_lt (n - v.lsb) v.width) h in grind (arith, nat_tests)
+
+within_memory : (a b : Bool) → (a && b) ≡ true → b ≡ true
+within_memory true b h = h
+within_memory false b h = absurd (cc)
+
+place_in_memory : (m : WordArray) (n : ℕ) → in_memory m n ≡ true → n ≤ m.high
+place_in_memory m n h = let t = within_memory (nat_le m.low n) (nat_le n m.high) h in grind (arith, nat_tests)
+
+pub bit_tree : (v : Vector) (y : Looked) (m : Option ℕ) (low : ℕ) (fault : Option Fault) (t : Result SizedExpr Fault) → m ≡ number_where (in_vector v) y → fault ≡ first (y.faults ++ unless (in_vector v) y)
+    → low ≡ min (or_zero m - v.lsb) 255 → v.width ≤ 255 → t ≡ tree_unless fault (kind.Select v.name low 1) → y.constant ≡ true
+    → TreeIs t (first (look_index 0 (Some (stands.Vector v)) y).faults) ((look_index 0 (Some (stands.Vector v)) y).sized 0 false)
+bit_tree v y m low fault t mm f l small e constant =
+    let P : Result SizedExpr Fault → Type 0 = λ z. TreeIs z (first (look_index 0 (Some (stands.Vector v)) y).faults) ((look_index 0 (Some (stands.Vector v)) y).sized 0 false) in
+    subst P (sym e) (unless_is fault (first (look_index 0 (Some (stands.Vector v)) y).faults) (kind.Select v.name low 1) _
+    (f ∙ ap (λ b. first (y.faults ++ cond b (unless (in_vector v) y) [])) (sym constant))
+    (λ h. let p = passed (in_vector v) y (ap (λ b. first (y.faults ++ cond b (unless (in_vector v) y) [])) (sym constant) ∙ h) in
+    let is : m ≡ Some p.number = mm ∙ passed_where (in_vector v) y p in
+    let inside = low_in_vector v p.number p.holds in
+    let same : low ≡ p.number - v.lsb = l ∙ ap (λ o. min (or_zero o - v.lsb) 255) is ∙ omega (arith, inside, small) in
+    ap (λ k. kind.Select v.name k 1) (same ∙ ap (λ o. or_zero o - v.lsb) (sym p.is)) ∙ ap (λ b. cond b (kind.Select v.name (or_zero (natural y) - v.lsb) 1) (kind.Index v.name v.lsb (own y))) (sym constant)))
+
+pub word_tree : (w : WordArray) (y : Looked) (m : Option ℕ) (place : ℕ) (fault : Option Fault) (t : Result SizedExpr Fault) → m ≡ number_where (in_memory w) y → fault ≡ first (y.faults ++ unless (in_memory w) y)
+    → place ≡ min (or_zero m - w.low) 65535 → w.high ≤ 65535 → t ≡ tree_unless fault (kind.Word w.number place) → y.constant ≡ true
+    → TreeIs t (first (look_index 0 (Some (stands.Memory w)) y).faults) ((look_index 0 (Some (stands.Memory w)) y).sized 0 false)
+word_tree w y m place fault t mm f l small e constant =
+    let P : Result SizedExpr Fault → Type 0 = λ z. TreeIs z (first (look_index 0 (Some (stands.Memory w)) y).faults) ((look_index 0 (Some (stands.Memory w)) y).sized 0 false) in
+    subst P (sym e) (unless_is fault (first (look_index 0 (Some (stands.Memory w)) y).faults) (kind.Word w.number place) _
+    (f ∙ ap (λ b. first (y.faults ++ cond b (unless (in_memory w) y) [])) (sym constant))
+    (λ h. let p = passed (in_memory w) y (ap (λ b. first (y.faults ++ cond b (unless (in_memory w) y) [])) (sym constant) ∙ h) in
+    let is : m ≡ Some p.number = mm ∙ passed_where (in_memory w) y p in
+    let inside = place_in_memory w p.number p.holds in
+    let same : place ≡ p.number - w.low = l ∙ ap (λ o. min (or_zero o - w.low) 65535) is ∙ omega (arith, inside, small) in
+    ap (λ k. kind.Word w.number k) (same ∙ ap (λ o. or_zero o - w.low) (sym p.is)) ∙ ap (λ b. cond b (kind.Word w.number (or_zero (natural y) - w.low)) (kind.WordIndex w.number w.low (own y))) (sym constant)))
+
+-- an index that is a value
+bit_index_is : (v : Vector) (t : Result SizedExpr Fault) (f : Option Fault) (u : SizedExpr) → TreeIs t f u → TreeIs (bit_index_tree v t) f (node 0 false (kind.Index v.name v.lsb u))
+bit_index_is v (Ok t) f u h = (h.0, ap (λ z. node 0 false (kind.Index v.name v.lsb z)) h.1)
+bit_index_is v (Err g) f u h = h
+
+word_index_is : (m : WordArray) (t : Result SizedExpr Fault) (f : Option Fault) (u : SizedExpr) → TreeIs t f u → TreeIs (word_index_tree m t) f (node 0 false (kind.WordIndex m.number m.low u))
+word_index_is m (Ok t) f u h = (h.0, ap (λ z. node 0 false (kind.WordIndex m.number m.low z)) h.1)
+word_index_is m (Err g) f u h = h
+
+pub bit_value : (v : Vector) (y : Looked) (r t : Result SizedExpr Fault) → t ≡ bit_index_tree v r → TreeIs r (first y.faults) (own y) → y.constant ≡ false
+    → TreeIs t (first (look_index 0 (Some (stands.Vector v)) y).faults) ((look_index 0 (Some (stands.Vector v)) y).sized 0 false)
+bit_value v y r t e h constant =
+    let P : Result SizedExpr Fault → Type 0 = λ z. TreeIs z (first (look_index 0 (Some (stands.Vector v)) y).faults) ((look_index 0 (Some (stands.Vector v)) y).sized 0 false) in
+    let Q : Bool → Type 0 = λ b. TreeIs (bit_index_tree v r) (first (y.faults ++ cond b (unless (in_vector v) y) [])) (node 0 false (cond b (kind.Select v.name (or_zero (natural y) - v.lsb) 1) (kind.Index v.name v.lsb (own y)))) in
+    let F : Option Fault → Type 0 = λ f. TreeIs (bit_index_tree v r) f (node 0 false (kind.Index v.name v.lsb (own y))) in
+    subst P (sym e) (subst Q (sym constant) (subst F (sym (first_nothing y.faults)) (bit_index_is v r (first y.faults) (own y) h)))
+
+pub word_value : (m : WordArray) (y : Looked) (r t : Result SizedExpr Fault) → t ≡ word_index_tree m r → TreeIs r (first y.faults) (own y) → y.constant ≡ false
+    → TreeIs t (first (look_index 0 (Some (stands.Memory m)) y).faults) ((look_index 0 (Some (stands.Memory m)) y).sized 0 false)
+word_value m y r t e h constant =
+    let P : Result SizedExpr Fault → Type 0 = λ z. TreeIs z (first (look_index 0 (Some (stands.Memory m)) y).faults) ((look_index 0 (Some (stands.Memory m)) y).sized 0 false) in
+    let Q : Bool → Type 0 = λ b. TreeIs (word_index_tree m r) (first (y.faults ++ cond b (unless (in_memory m) y) [])) (node 0 false (cond b (kind.Word m.number (or_zero (natural y) - m.low)) (kind.WordIndex m.number m.low (own y)))) in
+    let F : Option Fault → Type 0 = λ f. TreeIs (word_index_tree m r) f (node 0 false (kind.WordIndex m.number m.low (own y))) in
+    subst P (sym e) (subst Q (sym constant) (subst F (sym (first_nothing y.faults)) (word_index_is m r (first y.faults) (own y) h)))

@@ -1,0 +1,27 @@
+-- Why an expression is refused.
+use Rattle.std.specs.Prelude.{◌≡◌, ℕ, Bool, false, if◌then◌else◌, List, Some}
+use Rattle.vod_width.specs.declared.types.Fault.{Fault}
+use Rattle.vod_width.specs.declared.types.Fault.TheVariants as faults
+use Rattle.vod_width.specs.declared.types.WidthFault.{WidthFault}
+use Rattle.vod_width.specs.declared.types.WidthFault.TheVariants as refusals
+use Rattle.vod_width.specs.Sizes.{first}
+use Rattle.vod_width.specs.View.{sooner_of}
+
+-- a refusal names the first of several faults; want of memory aside
+abbrev pub Refused : WidthFault → List Fault → Type 0
+Refused (refusals.Rule place) fs = first fs ≡ Some (faults.Rule place)
+Refused (refusals.Width place) fs = first fs ≡ Some (faults.Width place)
+Refused refusals.Memory fs = Unit {0}
+
+abbrev pub refusal_of : Fault → WidthFault
+refusal_of (faults.Rule place) = refusals.Rule place
+refusal_of (faults.Width place) = refusals.Width place
+
+-- an expression without a value is refused at its own place; want of memory aside
+abbrev pub HasNoValue : WidthFault → Bool → ℕ → Type 0
+HasNoValue (refusals.Rule p) known place = (known ≡ false) × (p ≡ place)
+HasNoValue (refusals.Width p) known place = ⊥
+HasNoValue refusals.Memory known place = Unit {0}
+
+abbrev pub fault_beside : Fault → Bool → ℕ → Fault
+fault_beside fault constant place = if constant then fault else sooner_of fault (faults.Rule place)

@@ -1,0 +1,20 @@
+//! Sizes, signs and constants (IEEE 1364-2005, 5.4 and 5.5): an expression of a source becomes one in which each part has the size
+//! and the sign at which it is evaluated.
+#![tactic(auto)]
+
+mod decls;
+mod expr;
+mod fit;
+mod look;
+mod number;
+mod parts;
+mod select;
+mod sizing;
+#[cfg(test)]
+mod tests;
+mod tree;
+pub mod types;
+
+pub use decls::{Callee, Declared, Decls, Params, Vector, WordArray};
+pub use sizing::{constant, first_is_least, size};
+pub use types::WidthFault;

@@ -1,0 +1,97 @@
+//! What an expression is where it stands, and what a constant one stands for.
+ghost use Rattle.std.specs.Prelude.{◌≡◌, ℕ, ◌≤◌, ◌&&◌, List, [], true, false, Some, MatchResult, IfOk, All, Contains};
+ghost use Rattle.vod_bits.specs.Value.{all_known};
+ghost use Rattle.vod_design.specs.Run.{eval, nothing};
+ghost use Rattle.vod_width.specs.declared.types.Fault.{Fault};
+ghost use Rattle.vod_width.specs.Sizes.{first, look, value, in_context, constant_faults, place_of};
+ghost use Rattle.vod_width.specs.Refusals.{Refused, HasNoValue, refusal_of, fault_beside};
+
+use crate::decls::{Decls, Params};
+use crate::expr::look_expr;
+use crate::number::value;
+use crate::tree::{fit, fit_own, sooner};
+use crate::types::{Constant, Fault, WidthFault};
+use std::alloc::Global;
+use vod_bits::WIDTH;
+use vod_design::SizedExpr;
+use vod_tree::Expr;
+
+/// The expression as it is evaluated in a context: at its own size or the context's, whichever is larger, by its own sign (5.4.1,
+/// 5.5.2). A context of 0 is a self-determined place. The refusal is the first fault of it and its parts.
+pub fn size(
+    alloc: Global,
+    expr: &Expr,
+    decls: &Decls<'_>,
+    context: u8,
+) -> Result<SizedExpr, WidthFault>
+    requires { context ≤ WIDTH }
+    ensures { MatchResult result (λ e. ((look decls.now expr.now).faults ≡ []) × (e ≡ in_context context (look decls.now expr.now))) (λ f. Refused f (look decls.now expr.now).faults) }
+{
+    let x = look_expr(alloc, decls, expr)?;
+    let width = context.max(x.width);
+    let signed = x.signed;
+    let x = fit(alloc, x, width, signed)?;
+    match x.tree {
+        Ok(e) => Ok(e),
+        Err(f) => Err(refusal(f)),
+    }
+}
+
+/// The value of a constant expression at its own size, and its sign. One that isn't constant, or whose value has x or z bits, is
+/// refused at its first token.
+pub fn constant(alloc: Global, expr: &Expr, params: &Params<'_>) -> Result<Constant, WidthFault>
+    ensures { MatchResult result (λ c. (constant_faults (look params.now expr.now) ≡ []) × (c.value ≡ value (look params.now expr.now)) × (c.signed ≡ (look params.now expr.now).signed)) (λ f. Refused f (constant_faults (look params.now expr.now))) }
+{
+    let x = look_expr(alloc, params, expr)?;
+    let x = fit_own(alloc, x)?;
+    let (constant, signed, place) = (x.constant, x.signed, x.place);
+    match x.tree {
+        Ok(e) => known(alloc, &e, constant, signed, place),
+        Err(f) => Err(refusal(fault_beside(f, constant, place))),
+    }
+}
+
+/// The first fault of several is one of them, and none of them stands before it.
+pub fn first_is_least()
+    ensures { (faults : List Fault) (f : Fault) → first faults ≡ Some f → Contains faults f × All (λ g. place_of f ≤ place_of g) faults }
+{}
+
+// A fault as a refusal.
+fn refusal(fault: Fault) -> WidthFault
+    ensures { result ≡ refusal_of fault }
+{
+    match fault {
+        Fault::Rule(place) => WidthFault::Rule { place },
+        Fault::Width(place) => WidthFault::Width { place },
+    }
+}
+
+// The value of a tree without faults, where it is constant and known.
+fn known(
+    alloc: Global,
+    e: &SizedExpr,
+    constant: bool,
+    signed: bool,
+    place: u32,
+) -> Result<Constant, WidthFault>
+    ensures { MatchResult result (λ c. (constant ≡ true) × (all_known (eval [] nothing [] e.now) ≡ true) × (c.value ≡ eval [] nothing [] e.now) × (c.signed ≡ signed)) (λ f. HasNoValue f (constant && all_known (eval [] nothing [] e.now)) place) }
+{
+    if !constant {
+        return Err(WidthFault::Rule { place });
+    }
+    match value(alloc, e)?.known() {
+        Some(value) => Ok(Constant { value, signed }),
+        None => Err(WidthFault::Rule { place }),
+    }
+}
+
+// The first fault of an expression with a fault inside it: one that isn't constant is at fault at its own place too.
+fn fault_beside(fault: Fault, constant: bool, place: u32) -> Fault
+    ensures { result ≡ fault_beside fault constant place }
+{
+    if constant {
+        fault
+    } else {
+        sooner(fault, Fault::Rule(place))
+    }
+}

@@ -1,0 +1,41 @@
+//! What `constant` answers, and why it and `size` refuse.
+use std::alloc::AllocError;
+use vod_bits::Bits;
+
+/// The value of a constant expression, and whether it is signed.
+#[derive(Clone, Copy, Debug)]
+pub struct Constant {
+    pub value: Bits,
+    pub signed: bool,
+}
+
+/// Why an expression is refused: by the first token of the least part that is at fault, and at one place by a rule before a width.
+#[derive(Clone, Copy, Debug, PartialEq, Eq)]
+pub enum WidthFault {
+    /// A part that has to be constant isn't, or has a value that it may not have.
+    Rule { place: u32 },
+    /// A part is wider than `WIDTH` bits.
+    Width { place: u32 },
+    /// Memory ran out.
+    Memory,
+}
+
+impl From<AllocError> for WidthFault {
+    ghost use Rattle.std.specs.Prelude.{◌≡◌};
+    ghost use Rattle.vod_width.specs.declared.types.WidthFault.TheVariants.{Memory};
+
+    ghost from_gives = { λ _ fault. fault ≡ Memory };
+
+    fn from(_: AllocError) -> WidthFault {
+        WidthFault::Memory
+    }
+}
+
+/// A fault of an expression or of a part of it, at its first token.
+#[derive(Clone, Copy, Debug, PartialEq, Eq)]
+pub enum Fault {
+    /// A part that has to be constant isn't, or has a value that it may not have.
+    Rule(u32),
+    /// A part is wider than `WIDTH` bits.
+    Width(u32),
+}
