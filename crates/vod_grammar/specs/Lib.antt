@@ -1,0 +1,16 @@
+pub mod Words
+pub mod Read
+pub mod Form
+pub mod Laws
+pub mod State
+pub mod Facts
+pub mod WordLaws
+pub mod FrontLaws
+pub mod TokenLaws
+pub mod ThenLaws
+pub mod EitherLaws
+pub mod RepeatLaws
+pub mod PartLaws
+pub mod NumberLaws
+pub mod ExpressionLaws
+pub mod ListLaws

@@ -1,0 +1,14 @@
+//! The parts of which the grammar of sources is made: words, names, numbers and expressions, and how phrases are put together.
+#![tactic(auto)]
+
+mod laws;
+mod phrase;
+mod reader;
+#[cfg(test)]
+mod tests;
+mod word;
+
+pub use laws::phrases_are_exact;
+pub use phrase::{Phrase, expressions, names, separated, until};
+pub use reader::Reader;
+pub use word::Word;

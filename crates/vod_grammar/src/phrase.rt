@@ -1,0 +1,147 @@
+//! Lists of phrases.
+ghost use Rattle.std.specs.Prelude.{◌≡◌, List, []};
+ghost use Rattle.vod_expr.specs.Grammar.{Lexeme};
+ghost use Rattle.vod_grammar.specs.Read.{Read, separated, repeat, behind, name_read, expression_read};
+ghost use Rattle.vod_grammar.specs.State.{left, Gives, GivesAs, IsOfSource};
+ghost use Rattle.vod_grammar.specs.Words.{is_word, is_other};
+ghost use Rattle.vod_grammar.specs.declared.word.Word.TheVariants.{Comma};
+
+use crate::reader::Reader;
+use crate::word::Word;
+use sqlite_items::Items;
+use vod_expr::ParseFault;
+use vod_tree::{Expr, Ident};
+
+/// A form of phrase that is read from the tokens of a source.
+pub trait Phrase {
+    /// The tree of such a phrase.
+    type Node;
+
+    ghost reading: { List Lexeme → Read Self.Node };
+
+    /// Reads one.
+    fn read(reader: Reader<'_>, at: &mut usize) -> Result<Self::Node, ParseFault>
+        requires { IsOfSource reader }
+        ensures { Gives result (left reader.entry at.new) (reading (left reader.entry at.old)) };
+}
+
+/// One phrase or more, with `,` between.
+pub fn separated<P: Phrase>(
+    reader: Reader<'_>,
+    at: &mut usize,
+) -> Result<Items<P::Node>, ParseFault>
+where
+    P::Node: Drop,
+    requires { IsOfSource reader }
+    ensures { Gives result (left reader.entry at.new) (separated P.reading (left reader.entry at.old)) }
+{
+    let mut nodes = Items::new(reader.alloc);
+    nodes.push(P::read(reader, at)?)?;
+    more_separated::<P>(reader, at, &mut nodes)?;
+    Ok(nodes)
+}
+
+// Each further one behind its `,`.
+fn more_separated<P: Phrase>(
+    reader: Reader<'_>,
+    at: &mut usize,
+    nodes: &mut Items<P::Node>,
+) -> Result<(), ParseFault>
+where
+    P::Node: Drop,
+    requires { IsOfSource reader }
+    ensures { GivesAs (λ _. nodes.new) result (left reader.entry at.new)
+        (repeat (is_word Comma) (behind Comma P.reading) nodes.old (left reader.entry at.old)) }
+{
+    for _ in 0..reader.remaining(*at) {
+        let Some(_) = reader.takes(at, Word::Comma) else {
+            return Ok(());
+        };
+        nodes.push(P::read(reader, at)?)?;
+    }
+    Ok(())
+}
+
+/// Phrases up to a word, which is left, or up to the end.
+pub fn until<P: Phrase>(
+    reader: Reader<'_>,
+    at: &mut usize,
+    word: Word,
+) -> Result<Items<P::Node>, ParseFault>
+where
+    P::Node: Drop,
+    requires { IsOfSource reader }
+    ensures { Gives result (left reader.entry at.new) (repeat (is_other word) P.reading [] (left reader.entry at.old)) }
+{
+    let mut nodes = Items::new(reader.alloc);
+    more_until::<P>(reader, at, word, &mut nodes)?;
+    Ok(nodes)
+}
+
+// Each further one.
+fn more_until<P: Phrase>(
+    reader: Reader<'_>,
+    at: &mut usize,
+    word: Word,
+    nodes: &mut Items<P::Node>,
+) -> Result<(), ParseFault>
+where
+    P::Node: Drop,
+    requires { IsOfSource reader }
+    ensures { GivesAs (λ _. nodes.new) result (left reader.entry at.new)
+        (repeat (is_other word) P.reading nodes.old (left reader.entry at.old)) }
+{
+    for _ in 0..reader.remaining(*at) {
+        if !reader.is_other(*at, word) {
+            return Ok(());
+        }
+        nodes.push(P::read(reader, at)?)?;
+    }
+    Ok(())
+}
+
+// A name.
+pub(crate) struct NamePhrase {}
+
+impl Phrase for NamePhrase {
+    type Node = Ident;
+
+    ghost use Rattle.vod_grammar.specs.Read.{name_read};
+
+    ghost reading = { name_read };
+
+    fn read(reader: Reader<'_>, at: &mut usize) -> Result<Ident, ParseFault> {
+        reader.name(at)
+    }
+}
+
+// An expression.
+pub(crate) struct ExpressionPhrase {}
+
+impl Phrase for ExpressionPhrase {
+    type Node = Expr;
+
+    ghost use Rattle.vod_grammar.specs.Read.{expression_read};
+
+    ghost reading = { expression_read };
+
+    fn read(reader: Reader<'_>, at: &mut usize) -> Result<Expr, ParseFault> {
+        reader.expression(at)
+    }
+}
+
+/// One name or more, with `,` between.
+pub fn names(reader: Reader<'_>, at: &mut usize) -> Result<Items<Ident>, ParseFault>
+    requires { IsOfSource reader }
+    ensures { Gives result (left reader.entry at.new) (separated name_read (left reader.entry at.old)) }
+{
+    separated::<NamePhrase>(reader, at)
+}
+
+/// One expression or more, with `,` between.
+pub fn expressions(reader: Reader<'_>, at: &mut usize) -> Result<Items<Expr>, ParseFault>
+    requires { IsOfSource reader }
+    ensures { Gives result (left reader.entry at.new) (separated expression_read (left reader.entry at.old)) }
+{
+    separated::<ExpressionPhrase>(reader, at)
+}
