@@ -1,8 +1,8 @@
 -- The tokens that are left.
-use Rattle.std.proofs.Common.{◌≡◌, ℕ, min, ◌⊎◌, inl, inr, zero, suc, ◌+◌, ◌<◌, ◌≤◌, List, [], ◌∷◌, drop, length, refl, ap, sym, ◌∙◌, add-one, arith}
-use Rattle.std.proofs.lemmas.List.{drop-drop, drop-map, drop_all}
+use Rattle.std.proofs.Common.{◌≡◌, ℕ, min, zero, suc, ◌+◌, List, [], ◌∷◌, drop, length, refl, ap, sym, ◌∙◌, add-one, arith}
+use Rattle.std.proofs.lemmas.List.{drop-drop, drop-map}
 use Rattle.vod_token.specs.declared.Token.{Token}
-use Rattle.vod_expr.specs.Grammar.{Lexeme, lexeme, lexemes}
+use Rattle.vod_expr.specs.Grammar.{lexeme, lexemes}
 use Rattle.vod_grammar.specs.Read.{rest_of}
 
 rest_drop : (source : List ℕ) (ts : List Token) (at : ℕ) → rest_of (lexemes source (drop at ts)) ≡ lexemes source (drop (suc at) ts)

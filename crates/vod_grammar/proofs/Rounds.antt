@@ -1,8 +1,8 @@
 -- A round of a list: a phrase, or a word and a phrase behind it.
-use Rattle.std.proofs.Common.{◌≡◌, ℕ, suc, List, [], ◌∷◌, ◌++◌, Bool, true, cond, Option, None, refl, sym, ◌∙◌, ap}
+use Rattle.std.proofs.Common.{◌≡◌, ℕ, suc, List, [], ◌∷◌, ◌++◌, Bool, true, cond, None, ◌∙◌, ap}
 use Rattle.vod_expr.specs.Answer.{fault_at}
 use Rattle.vod_expr.specs.Grammar.{Lexeme}
-use Rattle.vod_grammar.specs.Read.{Read, Reading, Got, Failed, followed, is_next, rest_of, place_of, first, passes, behind, repeat_within}
+use Rattle.vod_grammar.specs.Read.{Reading, Got, Failed, followed, is_next, rest_of, place_of, first, passes, behind, repeat_within}
 use Rattle.vod_grammar.specs.Words.{is_word}
 use Rattle.vod_grammar.specs.declared.word.Word.{Word}
 

@@ -1,16 +1,15 @@
 -- What a word begins, or else another phrase.
-use Rattle.std.proofs.Common.{◌≡◌, ◌⊎◌, inl, inr, ℕ, List, [], ◌∷◌, ◌++◌, Option, None, Some, Bool, true, false, cond, refl, sym, ◌∙◌, ap, subst, append_assoc}
-use Rattle.vod_expr.specs.Answer.{fault_at}
+use Rattle.std.proofs.Common.{◌≡◌, ◌⊎◌, inl, inr, ℕ, List, [], ◌∷◌, ◌++◌, Option, None, Some, Bool, true, false, cond, refl, sym, ◌∙◌, ap, subst}
 use Rattle.vod_expr.specs.Grammar.{Lexeme}
 use Rattle.vod_expr.specs.declared.ParseFault.{ParseFault}
-use Rattle.vod_expr.specs.declared.ParseFault.TheVariants.{At, End, Statement}
-use Rattle.vod_grammar.specs.Form.{Form, Phrase, Depth, Sight, Alone, Before, EitherPhrase, led, unled, EitherDeep, in_led, in_other, either}
-use Rattle.vod_grammar.specs.Laws.{Laws, Example, Begun, Taken, Stopped, Halted, Unfinished, Passed, AreLexemes}
-use Rattle.vod_grammar.specs.Read.{Read, Got, Failed, first, passes}
+use Rattle.vod_expr.specs.declared.ParseFault.TheVariants.{Statement}
+use Rattle.vod_grammar.specs.Form.{Form, Alone, Before, led, unled, in_led, in_other, either}
+use Rattle.vod_grammar.specs.Laws.{Laws, Begun, Taken, Stopped, Halted, Unfinished, Passed, AreLexemes}
+use Rattle.vod_grammar.specs.Read.{Got, Failed, first, passes}
 use Rattle.vod_grammar.specs.Words.{Is, is_word}
 use Rattle.vod_grammar.specs.declared.word.Word.{Word}
-use Rattle.vod_grammar.specs.FrontLaws.{first-append, first_same, first_token}
-use Rattle.vod_grammar.specs.WordLaws.{word_is, is_word-is, word_token, word_token-is}
+use Rattle.vod_grammar.specs.FrontLaws.{first-append, first_token}
+use Rattle.vod_grammar.specs.WordLaws.{word_is, is_word-is}
 
 module _ {A : Type 0} (w : Word) (f : ℕ → Form A) (g : Form A) (lf : (place : ℕ) → Laws (f place)) (lg : Laws g) where
   -- a token that is the word, and one that isn't; at the end there is none

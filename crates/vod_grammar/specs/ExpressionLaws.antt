@@ -1,5 +1,5 @@
 -- Expressions, by what is known of their reader.
-use Rattle.std.proofs.Common.{◌≡◌, ◌⊎◌, inl, inr, ℕ, zero, suc, ◌<◌, ◌≤◌, List, [], ◌∷◌, ◌++◌, length, take, drop, length-take, arith, Option, None, Some, Result, Ok, Err, Bool, true, false, ◌||◌, ◌==◌, refl, sym, ◌∙◌, ap, subst, append_assoc, append-nil}
+use Rattle.std.proofs.Common.{◌≡◌, inl, ℕ, zero, suc, ◌<◌, ◌≤◌, List, [], ◌∷◌, ◌++◌, length, take, drop, length-take, arith, Option, None, Some, Result, Ok, Err, Bool, true, false, ◌||◌, ◌==◌, refl, sym, ◌∙◌, ap, subst, append-nil}
 use Rattle.std.proofs.Math.Seq.{drop-append_seam}
 use Rattle.std.proofs.lemmas.List.{take-append-drop}
 use Rattle.std.proofs.lemmas.List.Elements.{All-nil, All-cons}
@@ -7,16 +7,15 @@ use Rattle.std.specs.Prelude.{All, MatchResult, codes}
 use Rattle.vod_tree.specs.declared.expr.BinaryOp.{BinaryOp}
 use Rattle.vod_tree.specs.declared.expr.BinaryOp.TheVariants as binary
 use Rattle.vod_tree.specs.declared.expr.Expr.{Expr}
-use Rattle.vod_token.specs.declared.TokenKind.TheVariants as kinds
 use Rattle.vod_expr.specs.Answer.{fault_at, expr_read, expr_len, IsRead, IsRefused, EndsExpr}
-use Rattle.vod_expr.specs.Grammar.{Lexeme, IsLexeme, IsName, IsSymbol, IsExpr, name as name_expr, IsLongest, ident_of}
+use Rattle.vod_expr.specs.Grammar.{Lexeme, IsLexeme, IsSymbol, IsExpr, name as name_expr, IsLongest}
 use Rattle.vod_expr.specs.Operators.{binary_text}
 use Rattle.vod_expr.specs.declared.ParseFault.{ParseFault}
-use Rattle.vod_expr.specs.declared.ParseFault.TheVariants.{At, End, Statement}
+use Rattle.vod_expr.specs.declared.ParseFault.TheVariants.{End}
 use Rattle.vod_grammar.specs.Facts.{Facts}
-use Rattle.vod_grammar.specs.Form.{Form, Phrase, Sight, Alone, Before, ReadTo, ExpressionPhrase, an_expression, expression_form}
-use Rattle.vod_grammar.specs.Laws.{Laws, Example, Begun, Taken, Stopped, Halted, Unfinished, Passed, AreLexemes}
-use Rattle.vod_grammar.specs.Read.{Read, Got, Failed, first, tree_read, expression_read}
+use Rattle.vod_grammar.specs.Form.{Sight, Alone, Before, ReadTo, ExpressionPhrase, an_expression, expression_form}
+use Rattle.vod_grammar.specs.Laws.{Laws, Taken, Stopped, AreLexemes}
+use Rattle.vod_grammar.specs.Read.{Got, Failed, first, tree_read, expression_read}
 use Rattle.vod_grammar.specs.Words.{Is, spelling}
 use Rattle.vod_grammar.specs.declared.word.Word.{Word}
 use Rattle.vod_grammar.specs.FrontLaws.{got_value, got_rest, failed_fault, got_failed}

@@ -3,9 +3,8 @@ use Rattle.std.specs.Prelude.{◌≡◌, ℕ, ◌<◌, ◌≤◌, List, ◌∷�
 use Rattle.vod_token.specs.Literal.{StandsFor, literal_of}
 use Rattle.vod_token.specs.declared.value.Literal.{Literal}
 use Rattle.vod_tree.specs.declared.expr.Expr.{Expr}
-use Rattle.vod_tree.specs.declared.ident.Number.{Number}
 use Rattle.vod_expr.specs.Answer.{fault_at, expr_read, expr_len, IsRead, IsRefused, EndsExpr}
-use Rattle.vod_expr.specs.Grammar.{Lexeme, IsLexeme, IsNumber, IsExpr, IsLongest}
+use Rattle.vod_expr.specs.Grammar.{Lexeme, IsLexeme, IsExpr, IsLongest}
 
 pub record Facts : Type 0 where
   -- an answer is right

@@ -1,10 +1,9 @@
 -- Forms of phrases: how they are read, and which tokens they are.
 use Rattle.std.specs.Prelude.{◌≡◌, ℕ, Bool, true, false, List, [], ◌∷◌, ◌++◌, Option, None, Some, Ok, length}
-use Rattle.vod_token.specs.declared.TokenKind.TheVariants as kinds
 use Rattle.vod_tree.specs.declared.expr.Expr.{Expr}
 use Rattle.vod_tree.specs.declared.ident.Ident.{Ident}
 use Rattle.vod_tree.specs.declared.ident.Number.{Number}
-use Rattle.vod_expr.specs.Answer.{expr_read, fault_at}
+use Rattle.vod_expr.specs.Answer.{expr_read}
 use Rattle.vod_expr.specs.Grammar.{Lexeme, IsName, IsNumber, IsExpr, ident_of}
 use Rattle.vod_expr.specs.declared.ParseFault.TheVariants.{Statement}
 use Rattle.vod_grammar.specs.Words.{Is, is_word}

@@ -1,9 +1,9 @@
 -- Lists as they are written: each phrase behind the one before, and with `,` between.
-use Rattle.std.proofs.Common.{◌≡◌, List, [], ◌∷◌, ◌++◌, Option, None, Some, Bool, true, false, refl, sym, ◌∙◌, ap, subst, append_assoc, append-nil}
+use Rattle.std.proofs.Common.{◌≡◌, List, [], ◌∷◌, ◌++◌, Option, None, Some, Bool, true, false, refl, sym, ◌∙◌, subst, append_assoc, append-nil}
 use Rattle.vod_tree.specs.declared.expr.Expr.{Expr}
 use Rattle.vod_expr.specs.Grammar.{Lexeme, IsExpr, AreExprs, one as e_one, more as e_more}
 use Rattle.vod_grammar.specs.ExpressionLaws.{closes}
-use Rattle.vod_grammar.specs.Form.{Form, Phrase, Sight, Alone, Before, a_word, in_turn, RepeatedPhrase, no_more, one_more, repeated, behind, several, separated, expression_form, ExpressionPhrase, an_expression}
+use Rattle.vod_grammar.specs.Form.{Form, Phrase, Sight, Before, a_word, in_turn, RepeatedPhrase, no_more, one_more, repeated, behind, several, separated, expression_form, ExpressionPhrase, an_expression}
 use Rattle.vod_grammar.specs.Read.{first, passes}
 use Rattle.vod_grammar.specs.Words.{Is, is_word, spelling}
 use Rattle.vod_grammar.specs.WordLaws.{is_word-is}

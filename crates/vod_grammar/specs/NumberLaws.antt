@@ -1,8 +1,8 @@
 -- Numbers, by what is known of their texts.
-use Rattle.std.proofs.Common.{◌≡◌, List, [], ◌∷◌, true, refl}
+use Rattle.std.proofs.Common.{[], ◌∷◌, true, refl}
 use Rattle.std.specs.Prelude.{codes}
 use Rattle.vod_token.specs.Form.Form.{Plain}
-use Rattle.vod_token.specs.Literal.{literal, StandsFor}
+use Rattle.vod_token.specs.Literal.{literal}
 use Rattle.vod_token.specs.declared.TokenKind.TheVariants as kinds
 use Rattle.vod_tree.specs.declared.ident.Number.{Number}
 use Rattle.vod_expr.specs.Grammar.{Lexeme, IsNumber, number_from}

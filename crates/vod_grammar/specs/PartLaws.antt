@@ -1,10 +1,9 @@
 -- Other values, lists with `,` between, flags and limits.
-use Rattle.std.proofs.Common.{◌≡◌, ◌⊎◌, inl, inr, ℕ, List, [], ◌∷◌, ◌++◌, Option, None, Some, Bool, true, false, refl, sym, ◌∙◌, ap, subst, append_assoc}
-use Rattle.vod_expr.specs.Answer.{fault_at}
+use Rattle.std.proofs.Common.{◌≡◌, ◌⊎◌, inl, inr, ℕ, List, [], ◌∷◌, ◌++◌, Option, None, Bool, true, false, refl, sym, ◌∙◌, ap, subst}
 use Rattle.vod_expr.specs.Grammar.{Lexeme}
 use Rattle.vod_expr.specs.declared.ParseFault.{ParseFault}
 use Rattle.vod_expr.specs.declared.ParseFault.TheVariants.{At, End, Statement}
-use Rattle.vod_grammar.specs.Form.{Form, Phrase, Depth, Sight, Alone, Before, WordPhrase, a_word, ThenPhrase, in_turn, MappedPhrase, changed, mapped, PlacedPhrase, put, placed, give, either, repeated, behind, several, separated, flag, word_form, limit, limit_read, refuse_by, too_deep}
+use Rattle.vod_grammar.specs.Form.{Form, Phrase, Alone, Before, a_word, in_turn, MappedPhrase, changed, mapped, PlacedPhrase, put, placed, give, repeated, behind, several, separated, flag, word_form, limit, limit_read, refuse_by, too_deep}
 use Rattle.vod_grammar.specs.Laws.{Laws, Example, Begun, Taken, Stopped, Halted, Unfinished, Passed, AreLexemes}
 use Rattle.vod_grammar.specs.Read as reads
 use Rattle.vod_grammar.specs.Read.{Read, Got, Failed, first, followed, place_of}

@@ -1,11 +1,11 @@
 -- Phrases while the next token passes a test.
-use Rattle.std.proofs.Common.{◌≡◌, ◌⊎◌, inl, inr, ℕ, zero, suc, ◌+◌, ◌<◌, ◌≤◌, List, [], ◌∷◌, ◌++◌, length, length-append, arith, Option, None, Some, Bool, true, false, cond, refl, sym, ◌∙◌, ap, subst, append_assoc}
+use Rattle.std.proofs.Common.{◌≡◌, ◌⊎◌, inl, inr, ℕ, zero, suc, ◌<◌, ◌≤◌, List, [], ◌∷◌, ◌++◌, length, length-append, arith, Option, None, Some, Bool, true, false, cond, refl, sym, ◌∙◌, ap, subst, append_assoc}
 use Rattle.vod_expr.specs.Answer.{fault_at}
 use Rattle.vod_expr.specs.Grammar.{Lexeme}
 use Rattle.vod_expr.specs.declared.ParseFault.{ParseFault}
 use Rattle.vod_expr.specs.declared.ParseFault.TheVariants.{At, End, Statement}
-use Rattle.vod_grammar.specs.Form.{Form, Phrase, Depth, Sight, Alone, Before, RepeatedPhrase, no_more, one_more, RepeatedDeep, in_next, in_later, repeated}
-use Rattle.vod_grammar.specs.Laws.{Laws, Example, Begun, Taken, Stopped, Halted, Unfinished, Passed, AreLexemes}
+use Rattle.vod_grammar.specs.Form.{Form, Phrase, Alone, Before, RepeatedPhrase, no_more, one_more, RepeatedDeep, in_next, in_later, repeated}
+use Rattle.vod_grammar.specs.Laws.{Laws, Begun, Taken, Stopped, Halted, Unfinished, Passed, AreLexemes}
 use Rattle.vod_grammar.specs.Read.{Read, Got, Failed, first, passes, followed, repeat, repeat_within}
 use Rattle.vod_grammar.specs.FrontLaws.{first-append, first_same, first_token, lexemes_behind, got_value, got_rest, failed_fault, got_failed, before_first, read_shallow}
 

@@ -1,5 +1,5 @@
 -- The reader of the code: the tokens that are left from the next one on, and what a call answers.
-use Rattle.std.specs.Prelude.{◌≡◌, ℕ, List, drop, All, Option, None, Some, Result, Ok, Err}
+use Rattle.std.specs.Prelude.{◌≡◌, ℕ, List, drop, All, Result, Ok, Err}
 use Rattle.vod_token.specs.Span.{IsTokenOf}
 use Rattle.vod_expr.specs.Grammar.{Lexeme, lexemes}
 use Rattle.vod_expr.specs.declared.ParseFault.{ParseFault}

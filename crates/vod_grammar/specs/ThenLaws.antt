@@ -1,13 +1,12 @@
 -- One phrase behind another.
 use Rattle.std.proofs.Common.{◌≡◌, ◌⊎◌, inl, inr, ℕ, List, [], ◌∷◌, ◌++◌, Option, None, Some, refl, sym, ◌∙◌, ap, subst, append_assoc}
-use Rattle.vod_expr.specs.Answer.{fault_at}
 use Rattle.vod_expr.specs.Grammar.{Lexeme}
 use Rattle.vod_expr.specs.declared.ParseFault.{ParseFault}
-use Rattle.vod_expr.specs.declared.ParseFault.TheVariants.{At, End, Statement}
-use Rattle.vod_grammar.specs.Form.{Form, Phrase, Depth, Sight, Alone, Before, ThenPhrase, in_turn, then, closed, ThenDeep, in_first, in_second}
-use Rattle.vod_grammar.specs.Laws.{Laws, Closes, Example, Begun, Taken, Stopped, Halted, Unfinished, Passed, AreLexemes}
-use Rattle.vod_grammar.specs.Read.{Read, Got, Failed, first, followed, bind}
-use Rattle.vod_grammar.specs.FrontLaws.{first-append, first_same, first_token, lexemes_behind, failed_fault, got_failed, before_first, read_shallow, passed_more, begun_front}
+use Rattle.vod_expr.specs.declared.ParseFault.TheVariants.{Statement}
+use Rattle.vod_grammar.specs.Form.{Form, Phrase, Alone, Before, in_turn, then, closed, in_first, in_second}
+use Rattle.vod_grammar.specs.Laws.{Laws, Closes, Begun, Taken, Stopped, Halted, Unfinished, Passed, AreLexemes}
+use Rattle.vod_grammar.specs.Read.{Read, Got, Failed, first, followed}
+use Rattle.vod_grammar.specs.FrontLaws.{first-append, first_same, first_token, lexemes_behind, failed_fault, got_failed, before_first, read_shallow, begun_front}
 
 module _ {A B : Type 0} (f : Form A) (g : A → Form B) (lf : Laws f) (lg : (x : A) → Laws (g x)) where
   onto : (us vs : List Lexeme) (x : A) → f.read (us ++ vs) ≡ Got x vs → (then f g).read (us ++ vs) ≡ (g x).read vs

@@ -1,22 +1,21 @@
 -- Words, names and numbers.
-use Rattle.std.proofs.Common.{◌≡◌, ◌⊎◌, inl, inr, ℕ, List, [], ◌∷◌, ◌++◌, Option, None, Some, Bool, true, false, cond, refl, sym, ◌∙◌, ap, subst}
+use Rattle.std.proofs.Common.{◌≡◌, inl, inr, ℕ, List, [], ◌∷◌, ◌++◌, Option, None, Bool, true, false, cond, refl, sym, ◌∙◌, ap, subst}
 use Rattle.vod_token.specs.Literal.{StandsFor, literal_of}
 use Rattle.vod_token.specs.declared.TokenKind.TheVariants as kinds
 use Rattle.vod_token.specs.declared.value.Literal.{Literal}
 use Rattle.vod_tree.specs.declared.ident.Ident.{Ident}
 use Rattle.vod_tree.specs.declared.ident.Number.{Number}
-use Rattle.vod_expr.specs.Answer.{fault_at}
 use Rattle.vod_expr.specs.Grammar.{Lexeme, IsLexeme, IsName, IsNumber, ident_of, number_from}
 use Rattle.vod_expr.specs.Numerals.{number_of}
 use Rattle.vod_expr.specs.declared.ParseFault.{ParseFault}
-use Rattle.vod_expr.specs.declared.ParseFault.TheVariants.{At, End, Statement}
-use Rattle.vod_grammar.specs.Form.{Form, Phrase, Sight, Alone, Before, never, WordPhrase, a_word, word_form, NamePhrase, a_name, name_form, NumberPhrase, a_number, number_form, NoPhrase, nothing, give}
-use Rattle.vod_grammar.specs.Laws.{Laws, Example, Begun, Taken, Stopped, Halted, Passed, AreLexemes}
-use Rattle.vod_grammar.specs.Read.{Read, Got, Failed, first, word_read, name_read, number_read}
-use Rattle.vod_grammar.specs.Words.{Is, is_word, same_kind}
+use Rattle.vod_expr.specs.declared.ParseFault.TheVariants.{At, End}
+use Rattle.vod_grammar.specs.Form.{Form, Sight, Alone, Before, WordPhrase, a_word, word_form, NamePhrase, a_name, name_form, NumberPhrase, a_number, number_form, NoPhrase, nothing, give}
+use Rattle.vod_grammar.specs.Laws.{Laws, Example, Taken, Stopped, AreLexemes}
+use Rattle.vod_grammar.specs.Read.{Got, Failed, first}
+use Rattle.vod_grammar.specs.Words.{is_word, same_kind}
 use Rattle.vod_grammar.specs.declared.word.Word.{Word}
 use Rattle.vod_grammar.specs.FrontLaws.{got_value, got_rest, failed_fault, got_failed}
-use Rattle.vod_grammar.specs.WordLaws.{word_is, is_word-is, word_token, word_token-is, kind_same, same_kind-refl}
+use Rattle.vod_grammar.specs.WordLaws.{word_is, is_word-is, word_token, word_token-is, kind_same}
 
 -- a reader of one token, by a test of it
 record OneToken {A : Type 0} (f : Form A) (test : Lexeme → Bool) (value : Lexeme → A) : Type 0 where

@@ -1,12 +1,11 @@
 -- Words as tokens are tested for them.
-use Rattle.std.proofs.Common.{◌≡◌, ℕ, List, [], ◌∷◌, Bool, true, false, ◌&&◌, cond, refl, sym, ◌∙◌, ap, Option, None, Some, codes}
-use Rattle.std.proofs.lemmas.Bool.{eqb-true, eq-eqb}
+use Rattle.std.proofs.Common.{◌≡◌, Bool, true, false, ◌&&◌, refl, ◌∙◌, ap}
 use Rattle.std.proofs.lemmas.Slice.Eq.{bytes_eq-Decides}
 use Rattle.std.specs.Str.{bytes_eq}
 use Rattle.vod_token.specs.declared.TokenKind.{TokenKind}
 use Rattle.vod_token.specs.declared.TokenKind.TheVariants as kinds
-use Rattle.vod_expr.specs.Grammar.{Lexeme, IsName, IsNumber}
-use Rattle.vod_grammar.specs.Words.{Is, is_word, is_text_of, is_symbol, kind_by, kind_of, number_of, same_kind, spelling, are_same}
+use Rattle.vod_expr.specs.Grammar.{Lexeme, IsName}
+use Rattle.vod_grammar.specs.Words.{Is, is_word, is_text_of, is_symbol, kind_by, kind_of, same_kind, spelling, are_same}
 use Rattle.vod_grammar.specs.declared.word.Word.{Word}
 
 both_true : (a b : Bool) → (a && b) ≡ true → (a ≡ true) × (b ≡ true)

@@ -1,4 +1,4 @@
-use Rattle.std.proofs.Common.{◌≡◌, ℕ, suc, ◌+◌, ◌-◌, ◌<◌, List, [], ◌∷◌, ◌++◌, length, true, sym, ◌∙◌, ap, arith}
+use Rattle.std.proofs.Common.{◌≡◌, ℕ, suc, ◌+◌, ◌-◌, List, length, sym, ◌∙◌, ap, arith}
 use Rattle.vod_expr.specs.Grammar.{Lexeme}
 use Rattle.vod_grammar.specs.Read.{repeat, repeat_within}
 use Rattle.vod_grammar.specs.State.{left}

@@ -1,4 +1,4 @@
-use Rattle.std.proofs.Common.{◌≡◌, ℕ, ◌+◌, min, drop, length, Ok, sym, ◌∙◌, ap, arith}
+use Rattle.std.proofs.Common.{◌≡◌, ◌+◌, min, drop, length, sym, ◌∙◌, ap, arith}
 use Rattle.vod_expr.specs.Answer.{expr_read}
 use Rattle.vod_expr.specs.Grammar.{lexemes}
 use Rattle.vod_grammar.specs.Read.{Got, tree_read}
