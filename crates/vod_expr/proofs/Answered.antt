@@ -12,8 +12,8 @@ use Rattle.vod_expr.specs.declared.ParseFault.{ParseFault}
 use Rattle.vod_expr.specs.declared.ParseFault.TheVariants.{At}
 use Rattle.vod_expr.specs.Answer.{fault_at, IsRead, IsRefused, EndsExpr, BeginsNone, len_from, expr_len, expr_of, tree_or_fault, expr_read}
 use Rattle.vod_expr.specs.Grammar.{Lexeme, lexeme, lexemes, IsLexeme, IsExpr, IsLongest}
-use Rattle.vod_expr.specs.Machine.{Machine, step, run, start, ended}
-use Rattle.vod_expr.specs.Numerals.{number_of}
+use Rattle.vod_expr_machine.specs.Machine.{Machine, step, run, start, ended}
+use Rattle.vod_expr_machine.specs.Numerals.{number_of}
 use Rattle.vod_expr.specs.Reading.{Stops}
 use Rattle.vod_expr.proofs.Ends.{stops_behind, step_none}
 use Rattle.vod_expr.proofs.Longest.{read_longest, read_tree, read_none}

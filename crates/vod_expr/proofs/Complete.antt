@@ -8,15 +8,15 @@ use Rattle.vod_tree.specs.declared.expr.UnaryOp.{UnaryOp}
 use Rattle.vod_tree.specs.declared.expr.BinaryOp.{BinaryOp}
 use Rattle.vod_tree.specs.declared.ident.Ident.{Ident}
 use Rattle.vod_tree.specs.declared.ident.Number.{Number}
-use Rattle.vod_expr.specs.declared.word.Mark.{Mark}
-use Rattle.vod_expr.specs.declared.word.Mark.TheVariants as mark
-use Rattle.vod_expr.specs.declared.machine.Frame.{Frame}
-use Rattle.vod_expr.specs.declared.machine.Frame.TheVariants.{Prefix, Left, Chosen, Otherwise, Paren, Index, Range, Call, Brace, Concat, Replicate}
-use Rattle.vod_expr.specs.declared.machine.Head.{Head}
-use Rattle.vod_expr.specs.declared.machine.Head.TheVariants.{Wanted, Bare, Named, Whole, Outer}
+use Rattle.vod_expr_machine.specs.declared.word.Mark.{Mark}
+use Rattle.vod_expr_machine.specs.declared.word.Mark.TheVariants as mark
+use Rattle.vod_expr_machine.specs.declared.machine.Frame.{Frame}
+use Rattle.vod_expr_machine.specs.declared.machine.Frame.TheVariants.{Prefix, Left, Chosen, Otherwise, Paren, Index, Range, Call, Brace, Concat, Replicate}
+use Rattle.vod_expr_machine.specs.declared.machine.Head.{Head}
+use Rattle.vod_expr_machine.specs.declared.machine.Head.TheVariants.{Wanted, Bare, Named, Whole, Outer}
 use Rattle.vod_expr.specs.Operators.{unary_text, binary_text, tight}
 use Rattle.vod_expr.specs.Grammar.{Lexeme, IsSymbol, IsName, ident_of, IsNumber, at, IsExpr, AreExprs, number, name, index, range, call, paren, concat, replicate, prefixed, joined, choice, one, more}
-use Rattle.vod_expr.specs.Machine.{mark_text, mark_of, unary_of, binary_of, Machine, machine, Reduced, reduced, reduce, chosen, joined_with, at_part, level_at, behind, followed, preceded, opened, named, on_mark, on_operator, on_operand, on_symbol, on_kind, step, run}
+use Rattle.vod_expr_machine.specs.Machine.{mark_text, mark_of, unary_of, binary_of, Machine, machine, Reduced, reduced, reduce, chosen, joined_with, at_part, level_at, behind, followed, preceded, opened, named, on_mark, on_operator, on_operand, on_symbol, on_kind, step, run}
 use Rattle.vod_expr.proofs.Words.{mark_spelled, unary_unmarked, unary_spelled, binary_unmarked, binary_spelled, tight_some, tight_within}
 
 -- trees at a place are told apart by it

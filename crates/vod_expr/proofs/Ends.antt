@@ -10,14 +10,14 @@ use Rattle.vod_tree.specs.declared.expr.UnaryOp.{UnaryOp}
 use Rattle.vod_tree.specs.declared.expr.BinaryOp.{BinaryOp}
 use Rattle.vod_tree.specs.declared.ident.Ident.{Ident}
 use Rattle.vod_tree.specs.declared.ident.Number.{Number}
-use Rattle.vod_expr.specs.declared.word.Mark.{Mark}
-use Rattle.vod_expr.specs.declared.word.Mark.TheVariants as mark
-use Rattle.vod_expr.specs.declared.machine.Frame.{Frame}
-use Rattle.vod_expr.specs.declared.machine.Head.{Head}
-use Rattle.vod_expr.specs.declared.machine.Head.TheVariants.{Wanted, Bare, Named, Whole, Outer}
+use Rattle.vod_expr_machine.specs.declared.word.Mark.{Mark}
+use Rattle.vod_expr_machine.specs.declared.word.Mark.TheVariants as mark
+use Rattle.vod_expr_machine.specs.declared.machine.Frame.{Frame}
+use Rattle.vod_expr_machine.specs.declared.machine.Head.{Head}
+use Rattle.vod_expr_machine.specs.declared.machine.Head.TheVariants.{Wanted, Bare, Named, Whole, Outer}
 use Rattle.vod_expr.specs.Answer.{EndsExpr, BeginsNone, IsRead}
 use Rattle.vod_expr.specs.Grammar.{Lexeme, IsExpr, Begins}
-use Rattle.vod_expr.specs.Machine.{mark_text, mark_of, unary_of, binary_of, Machine, machine, reduce, at_close_paren, at_close_bracket, at_comma, at_colon, at_open_brace, at_close_brace, at_part, behind, followed, preceded, opened, named, on_mark, on_operator, on_operand, on_symbol, on_kind, step, run, tree, start}
+use Rattle.vod_expr_machine.specs.Machine.{mark_text, mark_of, unary_of, binary_of, Machine, machine, reduce, at_close_paren, at_close_bracket, at_comma, at_colon, at_open_brace, at_close_brace, at_part, behind, followed, preceded, opened, named, on_mark, on_operator, on_operand, on_symbol, on_kind, step, run, tree, start}
 use Rattle.vod_expr.proofs.Complete.{Knows, Holds, reads}
 use Rattle.vod_expr.proofs.Longest.{run_onto}
 use Rattle.vod_expr.proofs.Unique.{expr_runs, run_stops, unread_begins_none}

@@ -6,7 +6,6 @@ pub mod States
 pub mod Viable
 pub mod Numerals
 pub mod Longest
-pub mod Reducing
 pub mod Taken
 pub mod Ends
 pub mod Answered

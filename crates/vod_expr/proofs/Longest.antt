@@ -5,7 +5,7 @@ use Rattle.std.specs.List.{AllByRecursion}
 use Rattle.vod_tree.specs.declared.expr.Expr.{Expr}
 use Rattle.vod_tree.specs.declared.ident.Number.{Number}
 use Rattle.vod_expr.specs.Grammar.{Lexeme, IsExpr, Begins, IsLongest}
-use Rattle.vod_expr.specs.Machine.{Machine, step, run, start, ended}
+use Rattle.vod_expr_machine.specs.Machine.{Machine, step, run, start, ended}
 use Rattle.vod_expr.specs.Reading.{Stops}
 use Rattle.vod_expr.proofs.Complete.{Knows}
 use Rattle.vod_expr.proofs.Unique.{expr_runs, unread_begins_none}

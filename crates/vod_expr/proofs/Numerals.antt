@@ -9,7 +9,7 @@ use Rattle.vod_token.specs.declared.TokenKind.TheVariants as kinds
 use Rattle.vod_token.specs.declared.value.Literal.{Literal}
 use Rattle.vod_tree.specs.declared.ident.Number.{Number}
 use Rattle.vod_expr.specs.Grammar.{Lexeme, IsLexeme, IsNumber, number_from}
-use Rattle.vod_expr.specs.Numerals.{number_of}
+use Rattle.vod_expr_machine.specs.Numerals.{number_of}
 use Rattle.vod_expr.proofs.Complete.{Knows}
 use Rattle.vod_expr.proofs.States.{Sure}
 
@@ -40,7 +40,3 @@ numbered t is = λ k. by_form t k is.form is.spelled is.is
 
 pub own_number : OneLiteral → (t : Lexeme) → IsLexeme t → Sure number_of t
 own_number one t is = λ k. let n = is k in subst (IsNumber t) (sym (knows one t n.0 n.1)) n.1
-
-pub number_is : OneLiteral → (text : List ℕ) (place : ℕ) (n : Literal) → StandsFor text n → number_from place n ≡ number_of (record { kind = kinds.Number; text = text; place = place })
-unfolding number_of
-number_is one text place n stands = ap (number_from place) (sym (one text n stands))

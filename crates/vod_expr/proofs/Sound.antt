@@ -5,11 +5,11 @@ use Rattle.vod_tree.specs.declared.expr.ExprKind.{ExprKind}
 use Rattle.vod_tree.specs.declared.expr.ExprKind.TheVariants as tree_kind
 use Rattle.vod_tree.specs.declared.expr.UnaryOp.{UnaryOp}
 use Rattle.vod_tree.specs.declared.expr.BinaryOp.{BinaryOp}
-use Rattle.vod_expr.specs.declared.machine.Frame.{Frame}
-use Rattle.vod_expr.specs.declared.machine.Frame.TheVariants.{Prefix, Left, Chosen, Otherwise, Paren, Index, Range, Call, Brace, Concat, Replicate}
+use Rattle.vod_expr_machine.specs.declared.machine.Frame.{Frame}
+use Rattle.vod_expr_machine.specs.declared.machine.Frame.TheVariants.{Prefix, Left, Chosen, Otherwise, Paren, Index, Range, Call, Brace, Concat, Replicate}
 use Rattle.vod_expr.specs.Operators.{unary_text, binary_text, tight}
 use Rattle.vod_expr.specs.Grammar.{Lexeme, IsSymbol, IsName, ident_of, at, IsExpr, AreExprs, number, name, index, range, call, paren, concat, replicate, prefixed, joined, choice, one, more}
-use Rattle.vod_expr.specs.Machine.{Reduced, reduced, reduce, tree}
+use Rattle.vod_expr_machine.specs.Machine.{Reduced, reduced, reduce, tree}
 
 -- an expression of a level is one of each lower level
 pub lower : (m : ℕ) (ts : List Lexeme) (x : Expr) → IsExpr m ts x → (k : ℕ) → k ≤ m → IsExpr k ts x

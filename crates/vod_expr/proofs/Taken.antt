@@ -8,13 +8,13 @@ use Rattle.vod_token.specs.declared.Token.{Token}
 use Rattle.vod_tree.specs.declared.expr.Expr.{Expr}
 use Rattle.vod_expr.specs.declared.ParseFault.{ParseFault}
 use Rattle.vod_expr.specs.declared.ParseFault.TheVariants.{At, End, Statement, Memory}
-use Rattle.vod_expr.specs.declared.machine.Reader.{Reader}
+use Rattle.vod_expr_machine.specs.declared.machine.Reader.{Reader}
 use Rattle.vod_expr.specs.Answer.{fault_at, IsRead, IsRefused, tree_or_fault, expr_read}
 use Rattle.vod_expr.specs.Grammar.{Lexeme, lexeme, lexemes, IsExpr, IsLongest}
-use Rattle.vod_expr.specs.Machine.{Machine, step, run, start, ended}
-use Rattle.vod_expr.specs.Numerals.{number_of}
+use Rattle.vod_expr_machine.specs.Machine.{Machine, step, run, start, ended}
+use Rattle.vod_expr_machine.specs.Numerals.{number_of}
 use Rattle.vod_expr.specs.Reading.{Stops, Reads, fault_from, answered}
-use Rattle.vod_expr.specs.View.{frames_of, state_of, Gives}
+use Rattle.vod_expr_machine.specs.View.{frames_of, state_of, Gives}
 use Rattle.vod_expr.proofs.Answered.{Right, read_is}
 use Rattle.vod_expr.proofs.Longest.{run_onto}
 

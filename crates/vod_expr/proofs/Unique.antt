@@ -4,13 +4,13 @@ use Rattle.vod_tree.specs.declared.expr.Expr.{Expr}
 use Rattle.vod_tree.specs.declared.expr.ExprKind.{ExprKind}
 use Rattle.vod_tree.specs.declared.expr.ExprKind.TheVariants as tree_kind
 use Rattle.vod_tree.specs.declared.ident.Number.{Number}
-use Rattle.vod_expr.specs.declared.machine.Frame.{Frame}
-use Rattle.vod_expr.specs.declared.machine.Head.{Head}
-use Rattle.vod_expr.specs.declared.machine.Head.TheVariants.{Wanted, Bare, Named, Whole, Outer}
+use Rattle.vod_expr_machine.specs.declared.machine.Frame.{Frame}
+use Rattle.vod_expr_machine.specs.declared.machine.Head.{Head}
+use Rattle.vod_expr_machine.specs.declared.machine.Head.TheVariants.{Wanted, Bare, Named, Whole, Outer}
 use Rattle.vod_expr.specs.Grammar.{Lexeme, IsExpr}
-use Rattle.vod_expr.specs.Machine.{Machine, reduce, step, run, tree}
+use Rattle.vod_expr_machine.specs.Machine.{Machine, reduce, step, run, tree}
 use Rattle.vod_expr.specs.Grammar.{Begins}
-use Rattle.vod_expr.specs.Machine.{alone, ended, start}
+use Rattle.vod_expr_machine.specs.Machine.{alone, ended, start}
 use Rattle.vod_expr.proofs.Complete.{Knows, Holds, reads}
 
 ended_is : (h : Head) (fs : List Frame) (q : ℕ) (b : ExprKind) → Holds h q b → ended h fs ≡ alone (reduce 0 fs q b).frames (tree (reduce 0 fs q b))

@@ -4,13 +4,13 @@ use Rattle.vod_token.specs.declared.TokenKind.TheVariants as kinds
 use Rattle.vod_tree.specs.declared.expr.Expr.{Expr}
 use Rattle.vod_tree.specs.declared.expr.ExprKind.{ExprKind}
 use Rattle.vod_tree.specs.declared.expr.ExprKind.TheVariants as tree_kind
-use Rattle.vod_expr.specs.declared.word.Mark.{Mark}
-use Rattle.vod_expr.specs.declared.word.Mark.TheVariants as mark
-use Rattle.vod_expr.specs.declared.machine.Frame.{Frame}
-use Rattle.vod_expr.specs.declared.machine.Head.{Head}
-use Rattle.vod_expr.specs.declared.machine.Head.TheVariants.{Wanted, Bare, Named, Whole, Outer}
+use Rattle.vod_expr_machine.specs.declared.word.Mark.{Mark}
+use Rattle.vod_expr_machine.specs.declared.word.Mark.TheVariants as mark
+use Rattle.vod_expr_machine.specs.declared.machine.Frame.{Frame}
+use Rattle.vod_expr_machine.specs.declared.machine.Head.{Head}
+use Rattle.vod_expr_machine.specs.declared.machine.Head.TheVariants.{Wanted, Bare, Named, Whole, Outer}
 use Rattle.vod_expr.specs.Grammar.{Lexeme, IsSymbol, IsName, IsExpr, name, index, range, call, paren, concat, replicate, prefixed, joined, choice, one}
-use Rattle.vod_expr.specs.Machine.{mark_text}
+use Rattle.vod_expr_machine.specs.Machine.{mark_text}
 use Rattle.vod_expr.specs.Grammar.{Begins}
 use Rattle.vod_expr.proofs.Sound.{lower, need, parts_last, Begun, nothing, in_prefix, in_left, in_chosen, in_otherwise, in_paren, in_index, in_range, in_call, in_brace, in_concat, in_replicate}
 use Rattle.vod_expr.proofs.States.{AfterWhole, AfterInner, Stands, name_is_whole, need_within}

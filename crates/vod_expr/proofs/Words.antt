@@ -1,15 +1,16 @@
 -- The spellings of marks and operators, and what is spelled so.
-use Rattle.std.proofs.Common.{◌≡◌, ℕ, ◌<◌, ◌≤◌, ◌==◌, ◌&&◌, Bool, true, false, cond, List, [], ◌∷◌, None, Some, refl, ap, ◌∙◌, arith}
+use Rattle.std.proofs.Common.{◌≡◌, ℕ, ◌<◌, ◌≤◌, ◌==◌, ◌&&◌, Bool, true, false, cond, List, [], ◌∷◌, Option, None, Some, refl, ap, ◌∙◌, arith}
 use Rattle.std.specs.List.{AllByRecursion}
+use Rattle.std.specs.Option.{option_or}
 use Rattle.std.proofs.lemmas.Bool.{eqb-true}
 use Rattle.vod_tree.specs.declared.expr.UnaryOp.{UnaryOp}
 use Rattle.vod_tree.specs.declared.expr.UnaryOp.TheVariants as unary
 use Rattle.vod_tree.specs.declared.expr.BinaryOp.{BinaryOp}
 use Rattle.vod_tree.specs.declared.expr.BinaryOp.TheVariants as binary
-use Rattle.vod_expr.specs.declared.word.Mark.{Mark}
-use Rattle.vod_expr.specs.declared.word.Mark.TheVariants as mark
+use Rattle.vod_expr_machine.specs.declared.word.Mark.{Mark}
+use Rattle.vod_expr_machine.specs.declared.word.Mark.TheVariants as mark
 use Rattle.vod_expr.specs.Operators.{unary_text, binary_text, tight}
-use Rattle.vod_expr.specs.Machine.{same_text, looked_up, mark_text, marks, unaries, binaries, mark_of, unary_of, binary_of}
+use Rattle.vod_expr_machine.specs.Machine.{same_text, looked_up, mark_text, marks, unaries, arithmetic, comparisons, connectives, mark_of, unary_of, arithmetic_of, comparison_of, connective_of, binary_of}
 
 pub mark_spelled : (m : Mark) → mark_of (mark_text m) ≡ Some m
 unfolding mark_of
@@ -75,7 +76,7 @@ binary_unmarked binary.LogicalAnd = refl
 binary_unmarked binary.LogicalOr = refl
 
 pub binary_spelled : (op : BinaryOp) → binary_of (binary_text op) ≡ Some op
-unfolding binary_of
+unfolding binary_of arithmetic_of comparison_of connective_of
 binary_spelled binary.Mul = refl
 binary_spelled binary.Add = refl
 binary_spelled binary.Sub = refl
@@ -180,6 +181,24 @@ pub unary_found : (text : List ℕ) (op : UnaryOp) → unary_of text ≡ Some op
 unfolding unary_of
 unary_found text op h = found_spelled unary_text unaries text op (refl, (refl, (refl, (refl, (refl, (refl, (refl, (refl, (refl, (refl, tt)))))))))) h
 
+found_or : {A : Type 0} (o p : Option A) (a : A) (R : Type 0) → option_or o p ≡ Some a → (o ≡ Some a → R) → (p ≡ Some a → R) → R
+found_or None p a R h first second = second h
+found_or (Some x) p a R h first second = first h
+
+arithmetic_found : (text : List ℕ) (op : BinaryOp) → arithmetic_of text ≡ Some op → text ≡ binary_text op
+unfolding arithmetic_of
+arithmetic_found text op h = found_spelled binary_text arithmetic text op (refl, (refl, (refl, (refl, (refl, (refl, (refl, tt))))))) h
+
+comparison_found : (text : List ℕ) (op : BinaryOp) → comparison_of text ≡ Some op → text ≡ binary_text op
+unfolding comparison_of
+comparison_found text op h = found_spelled binary_text comparisons text op (refl, (refl, (refl, (refl, (refl, (refl, (refl, (refl, tt)))))))) h
+
+connective_found : (text : List ℕ) (op : BinaryOp) → connective_of text ≡ Some op → text ≡ binary_text op
+unfolding connective_of
+connective_found text op h = found_spelled binary_text connectives text op (refl, (refl, (refl, (refl, (refl, (refl, (refl, tt))))))) h
+
 pub binary_found : (text : List ℕ) (op : BinaryOp) → binary_of text ≡ Some op → text ≡ binary_text op
 unfolding binary_of
-binary_found text op h = found_spelled binary_text binaries text op (refl, (refl, (refl, (refl, (refl, (refl, (refl, (refl, (refl, (refl, (refl, (refl, (refl, (refl, (refl, (refl, (refl, (refl, (refl, (refl, (refl, (refl, tt)))))))))))))))))))))) h
+binary_found text op h =
+    found_or (arithmetic_of text) (option_or (comparison_of text) (connective_of text)) op (text ≡ binary_text op) h (arithmetic_found text op)
+    (λ g. found_or (comparison_of text) (connective_of text) op (text ≡ binary_text op) g (comparison_found text op) (connective_found text op))

@@ -6,8 +6,8 @@ use Rattle.vod_tree.specs.declared.expr.UnaryOp.{UnaryOp}
 use Rattle.vod_tree.specs.declared.expr.BinaryOp.{BinaryOp}
 use Rattle.vod_expr.specs.Operators.{unary_text, binary_text}
 use Rattle.vod_expr.specs.Grammar.{Lexeme, IsSymbol, IsName, IsExpr, IsLongest}
-use Rattle.vod_expr.specs.Machine.{Machine, step, run, start, ended}
-use Rattle.vod_expr.specs.Numerals.{number_of}
+use Rattle.vod_expr_machine.specs.Machine.{Machine, step, run, start, ended}
+use Rattle.vod_expr_machine.specs.Numerals.{number_of}
 use Rattle.vod_expr.specs.declared.ParseFault.{ParseFault}
 use Rattle.vod_expr.specs.declared.ParseFault.TheVariants.{At, End}
 

@@ -3,23 +3,16 @@ use Rattle.std.specs.Prelude.{◌≡◌, ℕ, suc, ◌≤◌, List, [], ◌∷�
 use Rattle.vod_token.specs.Literal.{StandsFor}
 use Rattle.vod_token.specs.Nesting.{slice_of}
 use Rattle.vod_token.specs.declared.Token.{Token}
-use Rattle.vod_token.specs.declared.TokenKind.{TokenKind}
 use Rattle.vod_token.specs.declared.TokenKind.TheVariants as kinds
 use Rattle.vod_token.specs.declared.value.Literal.{Literal}
-use Rattle.vod_tree.specs.declared.expr.Expr.{Expr, roll-Expr}
+use Rattle.vod_tree.specs.declared.expr.Expr.{Expr}
 use Rattle.vod_tree.specs.declared.expr.ExprKind.{ExprKind}
 use Rattle.vod_tree.specs.declared.expr.ExprKind.TheVariants as e
 use Rattle.vod_tree.specs.declared.expr.UnaryOp.{UnaryOp}
 use Rattle.vod_tree.specs.declared.expr.BinaryOp.{BinaryOp}
-use Rattle.vod_tree.specs.declared.ident.Ident.{Ident}
 use Rattle.vod_tree.specs.declared.ident.Number.{Number}
+pub use Rattle.vod_expr_machine.specs.Lexeme.{Lexeme, ident_of, number_from, at}
 use Rattle.vod_expr.specs.Operators.{unary_text, binary_text, tight}
-
--- A token as the grammar sees it: its kind, its spelling and its place. So what follows a run need not stand in its source.
-pub record Lexeme : Type 0 where
-  pub kind : TokenKind
-  pub text : List ℕ
-  pub place : ℕ
 
 -- a token of a source, and a list of them
 abbrev pub lexeme : List ℕ → Token → Lexeme
@@ -32,27 +25,17 @@ lexemes source ts = map (lexeme source) ts
 abbrev pub IsSymbol : Lexeme → List ℕ → Type 0
 IsSymbol t text = (t.kind ≡ kinds.Symbol) × (t.text ≡ text)
 
--- the token is a name; and its tree
+-- the token is a name
 abbrev pub IsName : Lexeme → Type 0
 IsName t = t.kind ≡ kinds.Name
 
-abbrev pub ident_of : Lexeme → Ident
-ident_of t = record { place = t.place; name = t.text }
-
 -- the token is a number, with this tree
-abbrev pub number_from : ℕ → Literal → Number
-number_from place n = record { place = place; size = n.size; signed = n.signed; value = n.value }
-
 abbrev pub IsNumber : Lexeme → Number → Type 0
 IsNumber t n = (t.kind ≡ kinds.Number) × ((literal : Literal) × StandsFor t.text literal × (n ≡ number_from t.place literal))
 
 -- a token of a source, as far as expressions see it: a number stands for one
 abbrev pub IsLexeme : Lexeme → Type 0
 IsLexeme t = t.kind ≡ kinds.Number → (n : Number) × IsNumber t n
-
--- a tree at a place
-abbrev pub at : ℕ → ExprKind → Expr
-at place kind = roll-Expr (record { place = place; kind = kind })
 
 -- The tokens are an expression with this tree, whose outermost operator binds at least as tightly as a level: an operator
 -- between two operands has its own level on its left and the next on its right, so equal ones group from the left; `?:` is at

@@ -4,12 +4,12 @@ use Rattle.vod_token.specs.declared.Token.{Token}
 use Rattle.vod_tree.specs.declared.expr.Expr.{Expr}
 use Rattle.vod_tree.specs.declared.ident.Number.{Number}
 use Rattle.vod_expr.specs.Grammar.{Lexeme}
-use Rattle.vod_expr.specs.Machine.{Machine, step, run, start, ended}
-use Rattle.vod_expr.specs.Numerals.{number_of}
-use Rattle.vod_expr.specs.View.{frames_of}
+use Rattle.vod_expr_machine.specs.Machine.{Machine, step, run, start, ended}
+use Rattle.vod_expr_machine.specs.Numerals.{number_of}
+use Rattle.vod_expr_machine.specs.View.{frames_of}
 use Rattle.vod_expr.specs.declared.ParseFault.{ParseFault}
 use Rattle.vod_expr.specs.declared.ParseFault.TheVariants.{At, End}
-use Rattle.vod_expr.specs.declared.machine.Reader.{Reader}
+use Rattle.vod_expr_machine.specs.declared.machine.Reader.{Reader}
 
 -- no token goes on, as there is none or it is refused
 abbrev pub Stops : (Lexeme → Number) → Machine → List Lexeme → Type 0

@@ -1,12 +1,9 @@
 //! The expressions of a source, read from its tokens (IEEE 1364-2005, clause 5).
 #![tactic(auto)]
 
-mod machine;
-mod number;
 mod read;
 #[cfg(test)]
 mod tests;
-mod word;
 
 ghost use Rattle.std.specs.Prelude.{◌≡◌, ◌≤◌, ◌<◌, ◌∷◌, ◌++◌, List, ℕ, length, drop, All, Ok, Err, MatchResult};
 ghost use Rattle.vod_token.specs.Span.{IsTokenOf};

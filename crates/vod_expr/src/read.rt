@@ -5,14 +5,14 @@ ghost use Rattle.vod_token.specs.Span.{IsTokenOf};
 ghost use Rattle.vod_tree.specs.declared.expr.Expr.{Expr};
 ghost use Rattle.vod_expr.specs.Answer.{IsRead, IsRefused, expr_read};
 ghost use Rattle.vod_expr.specs.Grammar.{IsExpr, IsLongest, lexemes};
-ghost use Rattle.vod_expr.specs.Machine.{start};
+ghost use Rattle.vod_expr_machine.specs.Machine.{start};
 ghost use Rattle.vod_expr.specs.Reading.{Reads, fault_from, answered};
-ghost use Rattle.vod_expr.specs.View.{state_of};
+ghost use Rattle.vod_expr_machine.specs.View.{state_of};
 ghost use Rattle.vod_expr.specs.declared.ParseFault.{ParseFault};
 
-use crate::machine::Reader;
 use crate::{ParseFault, one_answer, one_tree, source_lexemes};
 use std::alloc::{AllocError, Global};
+use vod_expr_machine::Reader;
 use vod_token::Token;
 use vod_tree::Expr;
 

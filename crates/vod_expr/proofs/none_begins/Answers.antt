@@ -1,4 +1,4 @@
-use Rattle.vod_expr.specs.Numerals.{number_of}
+use Rattle.vod_expr_machine.specs.Numerals.{number_of}
 use Rattle.vod_expr.proofs.Answered.{refused_by}
 use Rattle.vod_expr.proofs.Ends.{none_begins_by}
 use Rattle.vod_expr.proofs.Numerals.{knows}

@@ -1,4 +1,4 @@
-use Rattle.vod_expr.specs.Numerals.{number_of}
+use Rattle.vod_expr_machine.specs.Numerals.{number_of}
 use Rattle.vod_expr.proofs.Numerals.{knows}
 use Rattle.vod_expr.proofs.Unique.{one_tree_by}
 use Rattle.vod_expr.proofs.one_tree.Goals as goal

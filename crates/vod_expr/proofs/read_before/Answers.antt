@@ -1,4 +1,4 @@
-use Rattle.vod_expr.specs.Numerals.{number_of}
+use Rattle.vod_expr_machine.specs.Numerals.{number_of}
 use Rattle.vod_expr.proofs.Ends.{read_before_by}
 use Rattle.vod_expr.proofs.Numerals.{knows}
 use Rattle.vod_expr.proofs.read_before.Goals as goal

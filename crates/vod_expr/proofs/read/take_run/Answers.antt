@@ -1,6 +1,6 @@
 use Rattle.std.proofs.Common.{arith}
 use Rattle.vod_expr.proofs.Taken.{went_on, stayed, goes_on, stops_at, stops_last}
-use Rattle.vod_expr.specs.View.{state_of}
+use Rattle.vod_expr_machine.specs.View.{state_of}
 use Rattle.vod_expr.proofs.read.take_run.Goals as goal
 
 pub returns-then-not-branch : goal.returns-then-not-branch

@@ -1,8 +1,8 @@
 use Rattle.std.proofs.Common.{◌≡◌, take, Some}
 use Rattle.vod_expr.specs.Grammar.{lexemes}
-use Rattle.vod_expr.specs.Machine.{run, start}
-use Rattle.vod_expr.specs.Numerals.{number_of}
-use Rattle.vod_expr.specs.View.{state_of}
+use Rattle.vod_expr_machine.specs.Machine.{run, start}
+use Rattle.vod_expr_machine.specs.Numerals.{number_of}
+use Rattle.vod_expr_machine.specs.View.{state_of}
 use Rattle.vod_expr.proofs.read.take_run.Given as goal
 
 abbrev pub invariant-loop-taken : goal.invariant-loop-taken

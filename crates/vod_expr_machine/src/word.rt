@@ -1,13 +1,13 @@
 //! The marks and operators of expressions.
 
 ghost use Rattle.std.specs.Prelude.{◌≡◌, map, Some, None};
-ghost use Rattle.vod_expr.specs.Machine.{same_text, looked_up, mark_of, unary_of, binary_of};
+ghost use Rattle.vod_expr_machine.specs.Machine.{same_text, looked_up, mark_of, unary_of, arithmetic_of, comparison_of, connective_of, binary_of};
 
 use vod_tree::{BinaryOp, UnaryOp};
 
 /// What a symbol of an expression is, where it is no operator.
 #[derive(Clone, Copy, Debug, PartialEq, Eq)]
-pub(crate) enum Mark {
+pub enum Mark {
     /// `(`
     OpenParen,
     /// `)`
@@ -107,10 +107,10 @@ pub(crate) fn unary_of(text: &[u8]) -> Option<UnaryOp>
     None
 }
 
-// The operator between two operands that a text is.
-#[tactic(auto, unfolding(crate::specs::Machine::binary_of))]
-pub(crate) fn binary_of(text: &[u8]) -> Option<BinaryOp>
-    ensures { result ≡ binary_of text.now }
+// The arithmetic operator or shift that a text is.
+#[tactic(auto, unfolding(crate::specs::Machine::arithmetic_of))]
+fn arithmetic_of(text: &[u8]) -> Option<BinaryOp>
+    ensures { result ≡ arithmetic_of text.now }
 {
     if is(text, "*") {
         return Some(BinaryOp::Mul);
@@ -133,6 +133,14 @@ pub(crate) fn binary_of(text: &[u8]) -> Option<BinaryOp>
     if is(text, ">>>") {
         return Some(BinaryOp::ArithmeticRight);
     }
+    None
+}
+
+// The comparison that a text is.
+#[tactic(auto, unfolding(crate::specs::Machine::comparison_of))]
+fn comparison_of(text: &[u8]) -> Option<BinaryOp>
+    ensures { result ≡ comparison_of text.now }
+{
     if is(text, "<") {
         return Some(BinaryOp::Less);
     }
@@ -157,6 +165,14 @@ pub(crate) fn binary_of(text: &[u8]) -> Option<BinaryOp>
     if is(text, "!==") {
         return Some(BinaryOp::CaseNotEqual);
     }
+    None
+}
+
+// The operator of bits or truth that a text is.
+#[tactic(auto, unfolding(crate::specs::Machine::connective_of))]
+fn connective_of(text: &[u8]) -> Option<BinaryOp>
+    ensures { result ≡ connective_of text.now }
+{
     if is(text, "&") {
         return Some(BinaryOp::And);
     }
@@ -179,4 +195,18 @@ pub(crate) fn binary_of(text: &[u8]) -> Option<BinaryOp>
         return Some(BinaryOp::LogicalOr);
     }
     None
+}
+
+// The operator between two operands that a text is.
+#[tactic(auto, unfolding(crate::specs::Machine::binary_of))]
+pub(crate) fn binary_of(text: &[u8]) -> Option<BinaryOp>
+    ensures { result ≡ binary_of text.now }
+{
+    if let Some(op) = arithmetic_of(text) {
+        return Some(op);
+    }
+    if let Some(op) = comparison_of(text) {
+        return Some(op);
+    }
+    connective_of(text)
 }

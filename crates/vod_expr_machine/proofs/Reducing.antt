@@ -2,13 +2,13 @@
 use Rattle.std.proofs.Common.{◌≡◌, ℕ, nat_lt, not, Bool, true, false, cond, List, [], ◌∷◌, refl, ap, sym, ◌∙◌, arith}
 use Rattle.vod_tree.specs.declared.expr.ExprKind.{ExprKind}
 use Rattle.vod_tree.specs.declared.expr.ExprKind.TheVariants as tree_kind
-use Rattle.vod_expr.specs.declared.machine.Frame.{Frame}
-use Rattle.vod_expr.specs.declared.machine.Frame.TheVariants.{Prefix, Left, Chosen, Otherwise, Paren, Index, Range, Call, Brace, Concat, Replicate}
-use Rattle.vod_expr.specs.declared.machine.Head.TheVariants.{Whole}
-use Rattle.vod_expr.specs.Grammar.{at}
-use Rattle.vod_expr.specs.Operators.{tight}
-use Rattle.vod_expr.specs.Machine.{reduced, reduce, ended, alone, tree}
-use Rattle.vod_expr.specs.View.{binds, taken_place, taken_kind}
+use Rattle.vod_expr_machine.specs.declared.machine.Frame.{Frame}
+use Rattle.vod_expr_machine.specs.declared.machine.Frame.TheVariants.{Prefix, Left, Chosen, Otherwise, Paren, Index, Range, Call, Brace, Concat, Replicate}
+use Rattle.vod_expr_machine.specs.declared.machine.Head.TheVariants.{Whole}
+use Rattle.vod_expr_machine.specs.Lexeme.{at}
+use Rattle.vod_expr_machine.specs.Operators.{tight}
+use Rattle.vod_expr_machine.specs.Machine.{reduced, reduce, ended, alone, tree}
+use Rattle.vod_expr_machine.specs.View.{binds, taken_place, taken_kind}
 
 when_true : {A : Type 0} (b : Bool) (x y : A) → not b ≡ true → cond b x y ≡ y
 when_true true x y h = cc

@@ -1,7 +1,7 @@
 use Rattle.std.proofs.Common.{◌≡◌, length}
-use Rattle.vod_expr.specs.Machine.{reduce}
-use Rattle.vod_expr.specs.View.{frames_of}
-use Rattle.vod_expr.proofs.machine.Reader.reduce.Given as goal
+use Rattle.vod_expr_machine.specs.Machine.{reduce}
+use Rattle.vod_expr_machine.specs.View.{frames_of}
+use Rattle.vod_expr_machine.proofs.machine.Reader.reduce.Given as goal
 
 abbrev pub invariant-loop-tree : goal.invariant-loop-tree
 invariant-loop-tree l = reduce l.level (frames_of l.fn.self) l.fn.place l.fn.kind ≡ reduce l.level (frames_of l.self) l.begin l.tree

@@ -2,7 +2,7 @@
 
 ghost use Rattle.std.specs.Prelude.{◌≡◌};
 ghost use Rattle.vod_token.specs.Span.{IsTokenText};
-ghost use Rattle.vod_expr.specs.Numerals.{number_of};
+ghost use Rattle.vod_expr_machine.specs.Numerals.{number_of};
 
 use vod_token::{TokenKind, literal_of, one_literal};
 use vod_tree::Number;

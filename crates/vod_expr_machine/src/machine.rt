@@ -1,14 +1,14 @@
 //! Expressions read token by token: what was begun, and what was read last.
 ghost use Rattle.std.specs.Prelude.{◌≡◌, true, Some, None, ◌∷◌, ◌++◌, [], IfOk, OnOk, MatchOption};
 ghost use Rattle.vod_token.specs.Span.{IsTokenText};
-ghost use Rattle.vod_expr.specs.Grammar.{at};
-ghost use Rattle.vod_expr.specs.Numerals.{number_of};
+ghost use Rattle.vod_expr_machine.specs.Lexeme.{at};
+ghost use Rattle.vod_expr_machine.specs.Numerals.{number_of};
 ghost use Rattle.vod_tree.specs.declared.expr.ExprKind.TheVariants as e;
-ghost use Rattle.vod_expr.specs.Operators.{tight};
-ghost use Rattle.vod_expr.specs.Machine.{reduce, reduced, machine, whole, opened, ended, at_close_paren, at_close_bracket, at_comma, at_colon, at_open_brace, at_close_brace, at_part, level_at, behind, followed, preceded, on_operand, named, outer, on_mark, on_operator, on_symbol, mark_of, start, step};
-ghost use Rattle.vod_expr.specs.declared.machine.Head.TheVariants.{Wanted, Named, Whole, Outer};
-ghost use Rattle.vod_expr.specs.declared.machine.Frame.TheVariants.{Call, Concat, Replicate};
-ghost use Rattle.vod_expr.specs.View.{frames_of, state_of, binds, taken_place, taken_kind, Rests, Gives};
+ghost use Rattle.vod_expr_machine.specs.Operators.{tight};
+ghost use Rattle.vod_expr_machine.specs.Machine.{reduce, reduced, machine, whole, opened, ended, at_close_paren, at_close_bracket, at_comma, at_colon, at_open_brace, at_close_brace, at_part, level_at, behind, followed, preceded, on_operand, named, outer, on_mark, on_operator, on_symbol, mark_of, start, step};
+ghost use Rattle.vod_expr_machine.specs.declared.machine.Head.TheVariants.{Wanted, Named, Whole, Outer};
+ghost use Rattle.vod_expr_machine.specs.declared.machine.Frame.TheVariants.{Call, Concat, Replicate};
+ghost use Rattle.vod_expr_machine.specs.View.{frames_of, state_of, binds, taken_place, taken_kind, Rests, Gives};
 
 use crate::number::number_of;
 use crate::word::{Mark, binary_of, mark_of, unary_of};
@@ -19,7 +19,7 @@ use vod_tree::{BinaryOp, Expr, ExprKind, Ident, Name, UnaryOp};
 
 /// A part that was begun and isn't whole.
 #[derive(Drop)]
-pub(crate) enum Frame {
+pub enum Frame {
     /// An operator before a primary, and its place.
     Prefix(u32, UnaryOp),
     /// A left operand, its place and the operator behind it.
@@ -46,7 +46,7 @@ pub(crate) enum Frame {
 
 /// What was read last.
 #[derive(Drop)]
-pub(crate) enum Head {
+pub enum Head {
     /// Nothing of an operand yet.
     Wanted,
     /// An operator that wants a primary.
@@ -61,7 +61,7 @@ pub(crate) enum Head {
 
 /// An expression as far as it was read.
 #[derive(Drop)]
-pub(crate) struct Reader {
+pub struct Reader {
     head: Head,
     frames: Items<Frame>,
 }
@@ -684,12 +684,7 @@ impl Reader {
     }
 
     // A symbol comes, at its place.
-    pub(crate) fn symbol(
-        &mut self,
-        alloc: Global,
-        text: &[u8],
-        place: u32,
-    ) -> Result<bool, AllocError>
+    fn symbol(&mut self, alloc: Global, text: &[u8], place: u32) -> Result<bool, AllocError>
         ensures { Gives result (on_symbol (state_of self.old) place text.now (mark_of text.now)) (ended self.old.head (frames_of self.old)) self.new }
     {
         match mark_of(text) {
@@ -718,9 +713,9 @@ impl Reader {
         }
     }
 
-    // The tree of the tokens so far, where they are an expression.
+    /// The tree of the tokens so far, where they are an expression.
     #[tactic(auto, unfolding(crate::specs::Machine::ended))]
-    pub(crate) fn ended(&mut self, alloc: Global) -> Result<Option<Expr>, AllocError>
+    pub fn ended(&mut self, alloc: Global) -> Result<Option<Expr>, AllocError>
         ensures { IfOk result (λ o. o ≡ ended self.old.head (frames_of self.old)) }
     {
         match self.take_head() {
@@ -733,8 +728,8 @@ impl Reader {
         }
     }
 
-    // Before any token.
-    pub(crate) fn new(alloc: Global) -> Reader
+    /// Before any token.
+    pub fn new(alloc: Global) -> Reader
         ensures { state_of result ≡ start }
     {
         Reader {
@@ -744,21 +739,17 @@ impl Reader {
     }
 
     // A name comes, at its place.
-    pub(crate) fn name(
-        &mut self,
-        alloc: Global,
-        text: &[u8],
-        place: u32,
-    ) -> Result<bool, AllocError>
+    fn name(&mut self, alloc: Global, text: &[u8], place: u32) -> Result<bool, AllocError>
         ensures { Gives result (on_operand self.old.head (frames_of self.old) (Named (record { place = place; name = text.now }))) (ended self.old.head (frames_of self.old)) self.new }
     {
         let name = Name::from_slice(alloc, text)?;
         self.operand(Head::Named(Ident { place, name }))
     }
 
-    // A token comes, at its place.
+    /// A token comes, at its place. Says whether some expression goes on with it; where none does, the tree of the tokens before it
+    /// stays.
     #[tactic(auto, unfolding(crate::specs::Machine::on_kind))]
-    pub(crate) fn step(
+    pub fn step(
         &mut self,
         alloc: Global,
         kind: TokenKind,

@@ -1,6 +1,7 @@
 -- Expressions read token by token: what may come next, and what it adds.
 use Rattle.std.specs.Prelude.{ℕ, nat_lt, nat_eq, Bool, List, [], ◌∷◌, ◌++◌, Option, None, Some, option_and_then, if◌then◌else◌, codes}
 use Rattle.std.specs.Cmp.Lexicographic.{pointwise}
+use Rattle.std.specs.Option.{option_or}
 use Rattle.vod_token.specs.declared.TokenKind.{TokenKind}
 use Rattle.vod_token.specs.declared.TokenKind.TheVariants as kinds
 use Rattle.vod_tree.specs.declared.expr.Expr.{Expr}
@@ -12,14 +13,14 @@ use Rattle.vod_tree.specs.declared.expr.BinaryOp.{BinaryOp}
 use Rattle.vod_tree.specs.declared.expr.BinaryOp.TheVariants as binary
 use Rattle.vod_tree.specs.declared.ident.Ident.{Ident}
 use Rattle.vod_tree.specs.declared.ident.Number.{Number}
-use Rattle.vod_expr.specs.declared.word.Mark.{Mark}
-use Rattle.vod_expr.specs.declared.word.Mark.TheVariants as mark
-use Rattle.vod_expr.specs.declared.machine.Frame.{Frame}
-use Rattle.vod_expr.specs.declared.machine.Frame.TheVariants.{Prefix, Left, Chosen, Otherwise, Paren, Index, Range, Call, Brace, Concat, Replicate}
-use Rattle.vod_expr.specs.declared.machine.Head.{Head}
-use Rattle.vod_expr.specs.declared.machine.Head.TheVariants.{Wanted, Bare, Named, Whole, Outer}
-use Rattle.vod_expr.specs.Operators.{tight}
-use Rattle.vod_expr.specs.Grammar.{Lexeme, ident_of, at}
+use Rattle.vod_expr_machine.specs.declared.word.Mark.{Mark}
+use Rattle.vod_expr_machine.specs.declared.word.Mark.TheVariants as mark
+use Rattle.vod_expr_machine.specs.declared.machine.Frame.{Frame}
+use Rattle.vod_expr_machine.specs.declared.machine.Frame.TheVariants.{Prefix, Left, Chosen, Otherwise, Paren, Index, Range, Call, Brace, Concat, Replicate}
+use Rattle.vod_expr_machine.specs.declared.machine.Head.{Head}
+use Rattle.vod_expr_machine.specs.declared.machine.Head.TheVariants.{Wanted, Bare, Named, Whole, Outer}
+use Rattle.vod_expr_machine.specs.Operators.{tight}
+use Rattle.vod_expr_machine.specs.Lexeme.{Lexeme, ident_of, at}
 
 -- two texts are one
 abbrev pub same_text : List ℕ → List ℕ → Bool
@@ -54,14 +55,21 @@ unaries =
     ∷ (codes "~&", unary.Nand) ∷ (codes "|", unary.Or) ∷ (codes "~|", unary.Nor) ∷ (codes "^", unary.Xor)
     ∷ (codes "~^", unary.Xnor) ∷ (codes "^~", unary.XorNot) ∷ []
 
-abbrev pub binaries : List (List ℕ × BinaryOp)
-binaries =
+-- those between two operands: arithmetic and shifts, comparisons, and those of bits and of truth
+abbrev pub arithmetic : List (List ℕ × BinaryOp)
+arithmetic =
     (codes "*", binary.Mul) ∷ (codes "+", binary.Add) ∷ (codes "-", binary.Sub) ∷ (codes "<<", binary.ShiftLeft)
-    ∷ (codes ">>", binary.ShiftRight) ∷ (codes "<<<", binary.ArithmeticLeft) ∷ (codes ">>>", binary.ArithmeticRight)
-    ∷ (codes "<", binary.Less) ∷ (codes "<=", binary.LessEqual) ∷ (codes ">", binary.Greater) ∷ (codes ">=", binary.GreaterEqual)
-    ∷ (codes "==", binary.Equal) ∷ (codes "!=", binary.NotEqual) ∷ (codes "===", binary.CaseEqual)
-    ∷ (codes "!==", binary.CaseNotEqual) ∷ (codes "&", binary.And) ∷ (codes "^", binary.Xor) ∷ (codes "~^", binary.Xnor)
-    ∷ (codes "^~", binary.XorNot) ∷ (codes "|", binary.Or) ∷ (codes "&&", binary.LogicalAnd) ∷ (codes "||", binary.LogicalOr) ∷ []
+    ∷ (codes ">>", binary.ShiftRight) ∷ (codes "<<<", binary.ArithmeticLeft) ∷ (codes ">>>", binary.ArithmeticRight) ∷ []
+
+abbrev pub comparisons : List (List ℕ × BinaryOp)
+comparisons =
+    (codes "<", binary.Less) ∷ (codes "<=", binary.LessEqual) ∷ (codes ">", binary.Greater) ∷ (codes ">=", binary.GreaterEqual)
+    ∷ (codes "==", binary.Equal) ∷ (codes "!=", binary.NotEqual) ∷ (codes "===", binary.CaseEqual) ∷ (codes "!==", binary.CaseNotEqual) ∷ []
+
+abbrev pub connectives : List (List ℕ × BinaryOp)
+connectives =
+    (codes "&", binary.And) ∷ (codes "^", binary.Xor) ∷ (codes "~^", binary.Xnor) ∷ (codes "^~", binary.XorNot) ∷ (codes "|", binary.Or)
+    ∷ (codes "&&", binary.LogicalAnd) ∷ (codes "||", binary.LogicalOr) ∷ []
 
 unfoldable pub mark_of : List ℕ → Option Mark
 mark_of text = looked_up marks text
@@ -69,8 +77,17 @@ mark_of text = looked_up marks text
 unfoldable pub unary_of : List ℕ → Option UnaryOp
 unary_of text = looked_up unaries text
 
+unfoldable pub arithmetic_of : List ℕ → Option BinaryOp
+arithmetic_of text = looked_up arithmetic text
+
+unfoldable pub comparison_of : List ℕ → Option BinaryOp
+comparison_of text = looked_up comparisons text
+
+unfoldable pub connective_of : List ℕ → Option BinaryOp
+connective_of text = looked_up connectives text
+
 unfoldable pub binary_of : List ℕ → Option BinaryOp
-binary_of text = looked_up binaries text
+binary_of text = option_or (arithmetic_of text) (option_or (comparison_of text) (connective_of text))
 
 -- what was read last, and what is begun around it, the last first
 pub record Machine : Type 0 where

@@ -3,12 +3,12 @@ use Rattle.std.specs.Prelude.{◌≡◌, ℕ, nat_lt, not, Bool, true, false, Li
 use Rattle.vod_tree.specs.declared.expr.Expr.{Expr}
 use Rattle.vod_tree.specs.declared.expr.ExprKind.{ExprKind}
 use Rattle.vod_tree.specs.declared.expr.ExprKind.TheVariants as e
-use Rattle.vod_expr.specs.declared.machine.Reader.{Reader}
-use Rattle.vod_expr.specs.declared.machine.Frame.{Frame}
-use Rattle.vod_expr.specs.declared.machine.Frame.TheVariants.{Prefix, Left, Otherwise}
-use Rattle.vod_expr.specs.Grammar.{at}
-use Rattle.vod_expr.specs.Operators.{tight}
-use Rattle.vod_expr.specs.Machine.{Machine, machine, reduce, reduced, ended}
+use Rattle.vod_expr_machine.specs.declared.machine.Reader.{Reader}
+use Rattle.vod_expr_machine.specs.declared.machine.Frame.{Frame}
+use Rattle.vod_expr_machine.specs.declared.machine.Frame.TheVariants.{Prefix, Left, Otherwise}
+use Rattle.vod_expr_machine.specs.Lexeme.{at}
+use Rattle.vod_expr_machine.specs.Operators.{tight}
+use Rattle.vod_expr_machine.specs.Machine.{Machine, machine, reduce, reduced, ended}
 
 -- the frames, the last first
 abbrev pub frames_of : Reader → List Frame

@@ -1,0 +1,5 @@
+pub mod Lexeme
+pub mod Operators
+pub mod Machine
+pub mod Numerals
+pub mod View
