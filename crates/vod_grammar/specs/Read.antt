@@ -6,7 +6,7 @@ use Rattle.vod_tree.specs.declared.ident.Ident.{Ident}
 use Rattle.vod_tree.specs.declared.ident.Number.{Number}
 use Rattle.vod_expr.specs.Answer.{fault_at, expr_read}
 use Rattle.vod_expr.specs.Grammar.{Lexeme, ident_of}
-use Rattle.vod_expr.specs.Numerals.{number_of}
+use Rattle.vod_expr_machine.specs.Numerals.{number_of}
 use Rattle.vod_expr.specs.declared.ParseFault.{ParseFault}
 use Rattle.vod_grammar.specs.Words.{same_kind, is_word}
 use Rattle.vod_grammar.specs.declared.word.Word.{Word}

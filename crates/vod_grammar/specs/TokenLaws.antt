@@ -6,7 +6,7 @@ use Rattle.vod_token.specs.declared.value.Literal.{Literal}
 use Rattle.vod_tree.specs.declared.ident.Ident.{Ident}
 use Rattle.vod_tree.specs.declared.ident.Number.{Number}
 use Rattle.vod_expr.specs.Grammar.{Lexeme, IsLexeme, IsName, IsNumber, ident_of, number_from}
-use Rattle.vod_expr.specs.Numerals.{number_of}
+use Rattle.vod_expr_machine.specs.Numerals.{number_of}
 use Rattle.vod_expr.specs.declared.ParseFault.{ParseFault}
 use Rattle.vod_expr.specs.declared.ParseFault.TheVariants.{At, End}
 use Rattle.vod_grammar.specs.Form.{Form, Sight, Alone, Before, WordPhrase, a_word, word_form, NamePhrase, a_name, name_form, NumberPhrase, a_number, number_form, NoPhrase, nothing, give}

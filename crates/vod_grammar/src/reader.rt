@@ -1,7 +1,7 @@
 //! Words, names, numbers and expressions, read one behind the other from the tokens of a source.
 ghost use Rattle.std.specs.Prelude.{◌≡◌, length, MatchResult};
 ghost use Rattle.vod_expr.specs.Grammar.{lexeme, ident_of};
-ghost use Rattle.vod_expr.specs.Numerals.{number_of};
+ghost use Rattle.vod_expr_machine.specs.Numerals.{number_of};
 ghost use Rattle.vod_expr.specs.declared.ParseFault.{ParseFault};
 ghost use Rattle.vod_token.specs.Nesting.{slice_of};
 ghost use Rattle.vod_token.specs.Span.{IsTokenOf};

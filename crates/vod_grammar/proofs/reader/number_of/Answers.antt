@@ -2,7 +2,7 @@ use Rattle.std.proofs.Common.{◌≡◌, sym, ◌∙◌, ap}
 use Rattle.vod_token.specs.Literal.{literal_of}
 use Rattle.vod_token.specs.Nesting.{slice_of}
 use Rattle.vod_expr.specs.Grammar.{number_from}
-use Rattle.vod_expr.specs.Numerals.{number_of}
+use Rattle.vod_expr_machine.specs.Numerals.{number_of}
 use Rattle.vod_grammar.proofs.reader.number_of.Goals as goal
 
 pub returns : goal.returns
