@@ -1,2 +1,1 @@
 mod Lefts
-mod Rounds

@@ -103,6 +103,13 @@ pub data PlacedPhrase {A B : Type 0} (change : ℕ → A → B) (P : Phrase A) :
 abbrev pub placed : {A B : Type 0} → (ℕ → A → B) → Form A → Form B
 placed change f = record { read = reads.placed change f.read; phrase = PlacedPhrase change f.phrase; deep = f.deep }
 
+-- a phrase with a value that hangs on how many tokens it has too
+pub data CountedPhrase {A B : Type 0} (change : ℕ → A → B) (P : Phrase A) : Sight → List Lexeme → B → Option Lexeme → Type 0 where
+  numbered : {m : Sight} {ts : List Lexeme} {x : A} {b : Option Lexeme} → P m ts x b → CountedPhrase change P m ts (change (length ts) x) b
+
+abbrev pub counted : {A B : Type 0} → (ℕ → A → B) → Form A → Form B
+counted change f = record { read = reads.counted change f.read; phrase = CountedPhrase change f.phrase; deep = f.deep }
+
 -- what a word begins, or else another phrase, which the word doesn't begin
 pub data EitherPhrase {A : Type 0} (w : Word) (P : ℕ → Phrase A) (Q : Phrase A) : Sight → List Lexeme → A → Option Lexeme → Type 0 where
   led : {m : Sight} {t : Lexeme} {ts : List Lexeme} {x : A} {b : Option Lexeme} → Is w t → P t.place m ts x b → EitherPhrase w P Q m (t ∷ ts) x b
@@ -118,6 +125,18 @@ either w f g = record {
   phrase = EitherPhrase w (λ place. (f place).phrase) g.phrase;
   deep = EitherDeep w (λ place. (f place).deep) g.deep;
 }
+
+-- the one phrase where its first token passes a test, or else the other
+pub data ChosenPhrase {A : Type 0} (test : Lexeme → Bool) (P Q : Phrase A) : Sight → List Lexeme → A → Option Lexeme → Type 0 where
+  the_one : {m : Sight} {ts : List Lexeme} {x : A} {b : Option Lexeme} → (m ≡ Before → passes test (first ts None) ≡ true) → P m ts x b → ChosenPhrase test P Q m ts x b
+  the_other : {m : Sight} {ts : List Lexeme} {x : A} {b : Option Lexeme} → (m ≡ Before → passes test (first ts b) ≡ false) → Q m ts x b → ChosenPhrase test P Q m ts x b
+
+pub data ChosenDeep (test : Lexeme → Bool) (D E : Depth) : List Lexeme → Lexeme → Type 0 where
+  in_the_one : {front : List Lexeme} {u : Lexeme} → passes test (first front (Some u)) ≡ true → D front u → ChosenDeep test D E front u
+  in_the_other : {front : List Lexeme} {u : Lexeme} → passes test (first front (Some u)) ≡ false → E front u → ChosenDeep test D E front u
+
+abbrev pub choose : {A : Type 0} → (Lexeme → Bool) → Form A → Form A → Form A
+choose test f g = record { read = reads.choose test f.read g.read; phrase = ChosenPhrase test f.phrase g.phrase; deep = ChosenDeep test f.deep g.deep }
 
 -- phrases behind those that were read, while the next token passes a test
 pub data RepeatedPhrase {A : Type 0} (test : Lexeme → Bool) (P : Phrase A) (m : Sight) : List A → List Lexeme → List A → Option Lexeme → Type 0 where
@@ -136,6 +155,25 @@ repeated test f sofar = record {
   read = reads.repeat test f.read sofar;
   phrase = λ m ts xs b. RepeatedPhrase test f.phrase m sofar ts xs b;
   deep = RepeatedDeep test f.phrase f.deep;
+}
+
+-- the same, where the form of each hangs on those before it
+pub data RepeatedByPhrase {A : Type 0} (test : Lexeme → Bool) (P : List A → Phrase A) (m : Sight) : List A → List Lexeme → List A → Option Lexeme → Type 0 where
+  at_last : {sofar : List A} {b : Option Lexeme} → (m ≡ Before → passes test b ≡ false) → RepeatedByPhrase test P m sofar [] sofar b
+  one_on : {sofar : List A} {us vs : List Lexeme} {x : A} {xs : List A} {b : Option Lexeme}
+      → (m ≡ Before → passes test (first us None) ≡ true) → P sofar m us x (first vs b)
+      → RepeatedByPhrase test P m (sofar ++ x ∷ []) vs xs b → RepeatedByPhrase test P m sofar (us ++ vs) xs b
+
+pub data RepeatedByDeep {A : Type 0} (test : Lexeme → Bool) (P : List A → Phrase A) (D : List A → Depth) : List A → List Lexeme → Lexeme → Type 0 where
+  in_nearest : {sofar : List A} {front : List Lexeme} {t : Lexeme} → passes test (first front (Some t)) ≡ true → D sofar front t → RepeatedByDeep test P D sofar front t
+  in_further : {sofar : List A} {us front : List Lexeme} {x : A} {t : Lexeme} → passes test (first us None) ≡ true → P sofar Before us x (first front (Some t))
+      → RepeatedByDeep test P D (sofar ++ x ∷ []) front t → RepeatedByDeep test P D sofar (us ++ front) t
+
+abbrev pub repeated_by : {A : Type 0} → (Lexeme → Bool) → (List A → Form A) → List A → Form (List A)
+repeated_by test f sofar = record {
+  read = reads.repeat_by test (λ before. (f before).read) sofar;
+  phrase = λ m ts xs b. RepeatedByPhrase test (λ before. (f before).phrase) m sofar ts xs b;
+  deep = RepeatedByDeep test (λ before. (f before).phrase) (λ before. (f before).deep) sofar;
 }
 
 -- a phrase behind a word

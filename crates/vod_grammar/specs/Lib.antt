@@ -9,8 +9,13 @@ pub mod FrontLaws
 pub mod TokenLaws
 pub mod ThenLaws
 pub mod EitherLaws
+pub mod SameLaws
+pub mod RepeatByLaws
 pub mod RepeatLaws
 pub mod PartLaws
+pub mod ChooseLaws
+pub mod CountLaws
 pub mod NumberLaws
 pub mod ExpressionLaws
 pub mod ListLaws
+pub mod RoundLaws

@@ -1,5 +1,5 @@
 -- Phrases read from the front of some tokens.
-use Rattle.std.specs.Prelude.{ℕ, zero, suc, Bool, true, false, List, [], ◌∷◌, ◌++◌, length, drop, Option, None, Some, Result, Ok, Err, if◌then◌else◌}
+use Rattle.std.specs.Prelude.{ℕ, zero, suc, ◌-◌, Bool, true, false, List, [], ◌∷◌, ◌++◌, length, drop, Option, None, Some, Result, Ok, Err, if◌then◌else◌}
 use Rattle.vod_token.specs.declared.TokenKind.TheVariants as kinds
 use Rattle.vod_tree.specs.declared.expr.Expr.{Expr}
 use Rattle.vod_tree.specs.declared.ident.Ident.{Ident}
@@ -62,9 +62,17 @@ place_of (t ∷ ts) = t.place
 abbrev pub placed : {A B : Type 0} → (ℕ → A → B) → Reading A → Reading B
 placed change read ts = followed (read ts) (λ x. give (change (place_of ts) x))
 
+-- a value that hangs on how many tokens are read too
+abbrev pub counted : {A B : Type 0} → (ℕ → A → B) → Reading A → Reading B
+counted change read ts = followed (read ts) (λ x rest. Got (change (length ts - length rest) x) rest)
+
 -- what a word begins, which gets its place, or else another phrase
 abbrev pub either : {A : Type 0} → Word → (ℕ → Reading A) → Reading A → Reading A
 either w read other ts = if is_next w ts then read (place_of ts) (rest_of ts) else other ts
+
+-- the one phrase where the next token passes a test, which stays, or else the other
+abbrev pub choose : {A : Type 0} → (Lexeme → Bool) → Reading A → Reading A → Reading A
+choose test read other ts = if passes test (first ts None) then read ts else other ts
 
 -- a word, as its place
 abbrev pub word_read : Word → Reading ℕ
@@ -94,7 +102,17 @@ repeat_within (suc rounds) test read sofar ts =
     if passes test (first ts None) then followed (read ts) (λ x rest. repeat_within rounds test read (sofar ++ x ∷ []) rest)
     else Got sofar ts
 
+-- the same, where each hangs on those before it
+abbrev pub repeat_by_within : {A : Type 0} → ℕ → (Lexeme → Bool) → (List A → Reading A) → List A → Reading (List A)
+repeat_by_within zero test read sofar ts = Got sofar ts
+repeat_by_within (suc rounds) test read sofar ts =
+    if passes test (first ts None) then followed (read sofar ts) (λ x rest. repeat_by_within rounds test read (sofar ++ x ∷ []) rest)
+    else Got sofar ts
+
 -- each has a token at least, so as many rounds as there are tokens are enough
+unfoldable pub repeat_by : {A : Type 0} → (Lexeme → Bool) → (List A → Reading A) → List A → Reading (List A)
+repeat_by test read sofar ts = repeat_by_within (length ts) test read sofar ts
+
 unfoldable pub repeat : {A : Type 0} → (Lexeme → Bool) → Reading A → List A → Reading (List A)
 repeat test read sofar ts = repeat_within (length ts) test read sofar ts
 

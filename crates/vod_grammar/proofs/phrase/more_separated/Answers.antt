@@ -4,7 +4,7 @@ use Rattle.vod_grammar.specs.Read.{repeat, repeat_within, behind}
 use Rattle.vod_grammar.specs.State.{left}
 use Rattle.vod_grammar.specs.Words.{is_word}
 use Rattle.vod_grammar.specs.declared.word.Word.TheVariants.{Comma}
-use Rattle.vod_grammar.proofs.Rounds.{round_read}
+use Rattle.vod_grammar.specs.RoundLaws.{round_read}
 use Rattle.vod_grammar.proofs.phrase.more_separated.Goals as goal
 
 pub loop-init : goal.loop-init

@@ -3,7 +3,7 @@ use Rattle.vod_expr.specs.Grammar.{Lexeme}
 use Rattle.vod_grammar.specs.Read.{repeat, repeat_within}
 use Rattle.vod_grammar.specs.State.{left}
 use Rattle.vod_grammar.specs.Words.{is_other}
-use Rattle.vod_grammar.proofs.Rounds.{part_read}
+use Rattle.vod_grammar.specs.RoundLaws.{part_read}
 use Rattle.vod_grammar.proofs.phrase.more_until.Goals as goal
 
 pub loop-init : goal.loop-init
