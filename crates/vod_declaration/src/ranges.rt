@@ -1,0 +1,35 @@
+//! Ranges, read from the tokens of a source.
+ghost use Rattle.vod_grammar.specs.State.{left, Gives, IsOfSource};
+ghost use Rattle.vod_declaration.specs.RangesForm.{bounds, range_form};
+
+use vod_expr::ParseFault;
+use vod_grammar::{Reader, Word};
+use vod_tree::Range;
+
+/// A range where `[` comes next, and nothing elsewhere.
+pub fn range(reader: Reader<'_>, at: &mut usize) -> Result<Option<Range>, ParseFault>
+    requires { IsOfSource reader }
+    ensures { Gives result (left reader.entry at.new) (range_form.read (left reader.entry at.old)) }
+{
+    let Some(place) = reader.takes(at, Word::OpenBracket) else {
+        return Ok(None);
+    };
+    let range = bounds(reader, at, place)?;
+    Ok(Some(range))
+}
+
+// Behind `[`, at this place: `expr : expr ]`.
+pub(crate) fn bounds(reader: Reader<'_>, at: &mut usize, place: u32) -> Result<Range, ParseFault>
+    requires { IsOfSource reader }
+    ensures { Gives result (left reader.entry at.new) ((bounds place).read (left reader.entry at.old)) }
+{
+    let first = reader.expression(at)?;
+    reader.word(at, Word::Colon)?;
+    let second = reader.expression(at)?;
+    reader.word(at, Word::CloseBracket)?;
+    Ok(Range {
+        place,
+        first,
+        second,
+    })
+}

@@ -1,0 +1,4 @@
+pub mod Meaning
+pub mod DirectiveForm
+pub mod MeaningLaws
+pub mod DirectiveLaws

@@ -1,0 +1,2 @@
+mod GateWords
+mod Periods

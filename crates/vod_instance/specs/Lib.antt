@@ -1,0 +1,13 @@
+pub mod Listed
+pub mod Gates
+pub mod Instances
+pub mod WordChoice
+pub mod GatesForm
+pub mod InstancesForm
+pub mod FirstTokens
+pub mod WordChoiceLaws
+pub mod ListedLaws
+pub mod ShallowLaws
+pub mod DottedLaws
+pub mod GatesLaws
+pub mod InstancesLaws
