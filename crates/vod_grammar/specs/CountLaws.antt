@@ -86,4 +86,3 @@ module _ {A B : Type 0} (change : ℕ → A → B) (f : Form A) (lf : Laws f) wh
     halts = λ front t other d. let h = lf.halts front t other d in (h.0, counted_failed (front ++ t ∷ other) (Statement h.0) h.1);
     begins = λ front t d. counted_begun (front ++ t ∷ []) (lf.begins front t d);
   }
-

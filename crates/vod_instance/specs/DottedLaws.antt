@@ -3,7 +3,7 @@ use Rattle.std.proofs.Common.{◌≡◌, ℕ, List, [], ◌∷◌, ◌++◌, Opt
 use Rattle.vod_tree.specs.declared.expr.Expr.{Expr}
 use Rattle.vod_expr.specs.Grammar.{Lexeme, AreExprs}
 use Rattle.vod_grammar.specs.EitherLaws.{either_laws}
-use Rattle.vod_grammar.specs.Form.{Form, Sight, Before, a_word, in_turn, changed, led, unled, word_form, expression_form, mapped, behind, repeated, separated}
+use Rattle.vod_grammar.specs.Form.{Form, Sight, Before, a_word, in_turn, changed, led, unled, word_form, expression_form, mapped, behind, separated}
 use Rattle.vod_grammar.specs.Laws.{Laws}
 use Rattle.vod_grammar.specs.ListLaws.{ReadBefore, exprs_are, are_exprs}
 use Rattle.vod_grammar.specs.PartLaws.{mapped_laws, separated_laws, behind_laws}

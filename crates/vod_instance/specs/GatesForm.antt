@@ -7,9 +7,10 @@ use Rattle.vod_tree.specs.declared.instance.GateKind.TheVariants as kind
 use Rattle.vod_tree.specs.declared.instance.GateTerminals.{GateTerminals}
 use Rattle.vod_expr.specs.Grammar.{Lexeme}
 use Rattle.vod_grammar.specs.Form.{Form, word_form, name_form, expression_form, then, mapped, either, separated}
+use Rattle.vod_grammar.specs.declared.word.Word.{Word}
 use Rattle.vod_grammar.specs.declared.word.Word.TheVariants as word
 use Rattle.vod_instance.specs.Gates.{gate_word, terminals, gates}
-use Rattle.vod_instance.specs.WordChoice.{one_of, is_one_of}
+use Rattle.vod_instance.specs.WordChoice.{one_of, is_one_of, is_spelled_as}
 
 -- the kinds of gates behind `and`
 abbrev pub further_kinds : List GateKind
@@ -39,6 +40,10 @@ gates_behind k = then (separated terminals_form) (λ xs. mapped (λ _. gates k x
 
 abbrev pub gate_form : Form Gate
 gate_form = then kind_form gates_behind
+
+-- whether a word is that of a kind
+abbrev pub is_gate_word : Word → Bool
+is_gate_word w = is_spelled_as gate_word (kind.And ∷ further_kinds) w
 
 -- the first token of gates
 abbrev pub starts_gate : Lexeme → Bool

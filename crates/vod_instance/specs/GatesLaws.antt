@@ -1,5 +1,5 @@
 -- The form of gates is exact: its phrases are the gates.
-use Rattle.std.proofs.Common.{◌≡◌, inl, inr, ℕ, true, List, [], ◌∷◌, ◌++◌, Option, None, Some, refl}
+use Rattle.std.proofs.Common.{◌≡◌, inl, inr, ℕ, true, List, [], ◌∷◌, ◌++◌, Option, None, Some, refl, false}
 use Rattle.vod_tree.specs.declared.expr.Expr.{Expr}
 use Rattle.vod_tree.specs.declared.ident.Ident.{Ident}
 use Rattle.vod_tree.specs.declared.instance.Gate.{Gate}
@@ -8,7 +8,7 @@ use Rattle.vod_tree.specs.declared.instance.GateKind.TheVariants as kind
 use Rattle.vod_tree.specs.declared.instance.GateTerminals.{GateTerminals}
 use Rattle.vod_expr.specs.Grammar.{Lexeme, IsName, AreExprs, ident_of, one as one_expr, name as name_expr}
 use Rattle.vod_grammar.specs.EitherLaws.{either_laws}
-use Rattle.vod_grammar.specs.Form.{Form, Sight, Alone, a_word, a_name, in_turn, changed, led, unled, word_form, name_form, expression_form, mapped, separated}
+use Rattle.vod_grammar.specs.Form.{Sight, Alone, a_word, a_name, in_turn, changed, led, unled, word_form, name_form, expression_form, mapped, separated}
 use Rattle.vod_grammar.specs.Laws.{Laws, Begun}
 use Rattle.vod_grammar.specs.ListLaws.{ReadBefore, exprs_are, are_exprs}
 use Rattle.vod_grammar.specs.PartLaws.{mapped_laws, separated_laws}
@@ -17,14 +17,15 @@ use Rattle.vod_grammar.specs.ThenLaws.{then_laws}
 use Rattle.vod_grammar.specs.TokenLaws.{word_laws, name_laws, some_name, some_name-is}
 use Rattle.vod_grammar.specs.WordLaws.{is_word-other, is_word-name, word_token, word_token-is}
 use Rattle.vod_grammar.specs.Words.{Is}
+use Rattle.vod_grammar.specs.declared.word.Word.{Word}
 use Rattle.vod_grammar.specs.declared.word.Word.TheVariants as word
 use Rattle.vod_instance.specs.Gates.{IsTerminals, unnamed, named, IsGate, of_kind, gate_word, terminals, gates}
-use Rattle.vod_instance.specs.GatesForm.{further_kinds, kind_form, terminals_behind, named_behind, named_terminals, terminals_form, gates_behind, gate_form, starts_gate}
+use Rattle.vod_instance.specs.GatesForm.{further_kinds, kind_form, terminals_behind, named_behind, named_terminals, terminals_form, gates_behind, gate_form, starts_gate, is_gate_word}
 use Rattle.vod_instance.specs.Listed.{AreListed, last}
 use Rattle.vod_instance.specs.ListedLaws.{Are, Fit, listed_of, of_listed}
 use Rattle.vod_instance.specs.ShallowLaws.{Shallow, word_shallow, name_shallow, expression_shallow, mapped_shallow, then_shallow, either_shallow, separated_shallow}
 use Rattle.vod_instance.specs.WordChoice.{IsWordOf, its_word, IsFirst}
-use Rattle.vod_instance.specs.WordChoiceLaws.{one_of_is, one_of_into, one_of_laws, one_of_shallow, is_one_of-is, one_of-is}
+use Rattle.vod_instance.specs.WordChoiceLaws.{one_of_is, one_of_into, one_of_laws, one_of_shallow, is_one_of-is, one_of-is, is_one_of-word, is_one_of-name}
 
 -- phrases of the form are gates
 unnamed_is : (opener : Lexeme) (ts : List Lexeme) (xs : List Expr) → Is word.OpenParen opener → AreExprs ts xs → (m : Sight) (us : List Lexeme) (x : GateTerminals) (b : Option Lexeme)
@@ -117,6 +118,12 @@ gate_starts k t h = is_one_of-is gate_word (kind.And ∷ further_kinds) k t (kin
 
 pub starts_word : (t : Lexeme) → starts_gate t ≡ true → (k : GateKind) × Is (gate_word k) t
 starts_word t e = one_of-is gate_word (kind.And ∷ further_kinds) t e
+
+pub gate_other : (w : Word) (t : Lexeme) → Is w t → starts_gate t ≡ is_gate_word w
+gate_other w t h = is_one_of-word gate_word (kind.And ∷ further_kinds) w t h
+
+pub gate_name : (t : Lexeme) → IsName t → starts_gate t ≡ false
+gate_name t h = is_one_of-name gate_word (kind.And ∷ further_kinds) t h
 
 -- `( a ) ;`
 pub gate_begins : ReadBefore → (t : Lexeme) → starts_gate t ≡ true → Begun gate_form.phrase (t ∷ [])

@@ -10,12 +10,12 @@ use Rattle.vod_tree.specs.declared.instance.Instance.{Instance}
 use Rattle.vod_tree.specs.declared.instance.Instances.{Instances}
 use Rattle.vod_tree.specs.declared.instance.NamedArgument.{NamedArgument}
 use Rattle.vod_tree.specs.declared.instance.NamedConnection.{NamedConnection}
-use Rattle.vod_expr.specs.Grammar.{Lexeme, IsName, IsExpr, AreExprs, ident_of}
+use Rattle.vod_expr.specs.Grammar.{Lexeme, IsName, IsExpr, ident_of}
 use Rattle.vod_grammar.specs.EitherLaws.{either_laws}
-use Rattle.vod_grammar.specs.Form.{Form, Sight, Alone, an_expression, a_word, a_name, nothing, in_turn, changed, led, unled, word_form, name_form, expression_form, give, mapped, separated}
+use Rattle.vod_grammar.specs.Form.{Sight, Alone, an_expression, a_word, a_name, nothing, in_turn, changed, led, unled, word_form, name_form, expression_form, give, mapped, separated}
 use Rattle.vod_grammar.specs.FrontLaws.{first-append}
 use Rattle.vod_grammar.specs.Laws.{Laws, Begun}
-use Rattle.vod_grammar.specs.ListLaws.{ReadBefore, exprs_are, are_exprs}
+use Rattle.vod_grammar.specs.ListLaws.{ReadBefore}
 use Rattle.vod_grammar.specs.PartLaws.{mapped_laws, separated_laws}
 use Rattle.vod_grammar.specs.Read.{first, passes}
 use Rattle.vod_grammar.specs.ThenLaws.{then_laws}

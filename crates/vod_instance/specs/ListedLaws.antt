@@ -1,7 +1,7 @@
 -- Lists with `,` between are the phrases of the form of such lists.
-use Rattle.std.proofs.Common.{◌≡◌, List, ◌∷◌, ◌++◌, Option, Some, false}
+use Rattle.std.proofs.Common.{◌≡◌, List, Option, Some, false}
 use Rattle.vod_expr.specs.Grammar.{Lexeme}
-use Rattle.vod_grammar.specs.Form.{Form, Sight, Before, separated}
+use Rattle.vod_grammar.specs.Form.{Form, Sight, separated}
 use Rattle.vod_grammar.specs.ListLaws.{Commas, commas_of, of_commas, last as commas_last, next as commas_next}
 use Rattle.vod_grammar.specs.Read.{passes}
 use Rattle.vod_grammar.specs.Words.{is_word}

@@ -1,5 +1,5 @@
 -- One of some words.
-use Rattle.std.specs.Prelude.{◌≡◌, ◌⊎◌, Bool, true, false, ◌||◌, List, [], ◌∷◌}
+use Rattle.std.specs.Prelude.{◌≡◌, ◌⊎◌, Bool, false, ◌||◌, List, [], ◌∷◌}
 use Rattle.vod_expr.specs.Grammar.{Lexeme}
 use Rattle.vod_grammar.specs.Form.{Form, word_form, give, mapped, either}
 use Rattle.vod_grammar.specs.Read as reads
@@ -25,6 +25,11 @@ word_read word_of (x ∷ xs) = reads.either (word_of x) (λ _. reads.give x) (wo
 abbrev pub is_one_of : {A : Type 0} → (A → Word) → List A → Lexeme → Bool
 is_one_of word_of [] t = false
 is_one_of word_of (x ∷ xs) t = is_word (word_of x) t || is_one_of word_of xs t
+
+-- whether a word is spelled like that of one of them
+abbrev pub is_spelled_as : {A : Type 0} → (A → Word) → List A → Word → Bool
+is_spelled_as word_of [] w = false
+is_spelled_as word_of (x ∷ xs) w = are_same (word_of x) w || is_spelled_as word_of xs w
 
 -- the value is among these, and no word of one before it is spelled like its own
 abbrev pub IsFirst : {A : Type 0} → (A → Word) → List A → A → Type 0

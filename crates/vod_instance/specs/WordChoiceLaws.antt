@@ -1,19 +1,18 @@
 -- The laws of a choice of words.
-use Rattle.std.proofs.Common.{◌≡◌, ◌⊎◌, inl, inr, Bool, true, false, ◌||◌, cond, List, [], ◌∷◌, Option, refl, sym, ◌∙◌, ap, subst}
-use Rattle.vod_expr.specs.Answer.{fault_at}
-use Rattle.vod_expr.specs.Grammar.{Lexeme}
+use Rattle.std.proofs.Common.{◌≡◌, inl, inr, Bool, true, false, ◌||◌, cond, List, [], ◌∷◌, Option, refl, sym, ◌∙◌, ap, subst}
+use Rattle.vod_expr.specs.Grammar.{Lexeme, IsName}
 use Rattle.vod_grammar.specs.EitherLaws.{either_laws}
-use Rattle.vod_grammar.specs.Form.{Form, Sight, WordPhrase, a_word, nothing, MappedPhrase, changed, EitherPhrase, led, unled, word_form, give}
+use Rattle.vod_grammar.specs.Form.{Sight, WordPhrase, a_word, nothing, MappedPhrase, changed, led, unled, word_form, give}
 use Rattle.vod_grammar.specs.Laws.{Laws}
 use Rattle.vod_grammar.specs.PartLaws.{mapped_laws}
 use Rattle.vod_grammar.specs.Read as reads
 use Rattle.vod_grammar.specs.Read.{Got, Failed, first, followed, is_next, passes, place_of, rest_of, refuse}
 use Rattle.vod_grammar.specs.TokenLaws.{word_laws, give_laws}
-use Rattle.vod_grammar.specs.WordLaws.{word_is, is_word-is, is_word-other}
-use Rattle.vod_grammar.specs.Words.{Is, is_word}
+use Rattle.vod_grammar.specs.WordLaws.{word_is, is_word-is, is_word-other, is_word-name}
+use Rattle.vod_grammar.specs.Words.{Is, is_word, are_same}
 use Rattle.vod_grammar.specs.declared.word.Word.{Word}
 use Rattle.vod_instance.specs.ShallowLaws.{Shallow, word_shallow, give_shallow, mapped_shallow, either_shallow}
-use Rattle.vod_instance.specs.WordChoice.{IsWordOf, its_word, one_of, word_read, is_one_of, IsFirst}
+use Rattle.vod_instance.specs.WordChoice.{IsWordOf, its_word, one_of, word_read, is_one_of, IsFirst, is_spelled_as}
 
 module _ {A : Type 0} (word_of : A → Word) where
   -- the code reads the same
@@ -72,3 +71,13 @@ module _ {A : Type 0} (word_of : A → Word) where
       by : (b : Bool) → is_word (word_of x) t ≡ b → (is_one_of word_of xs t ≡ true → (k : A) × Is (word_of k) t) → (k : A) × Is (word_of k) t
       by true h later = (x, word_is (word_of x) t h)
       by false h later = later (ap (λ v. v || is_one_of word_of xs t) (sym h) ∙ e)
+
+  -- a word is one of them where it is spelled so, and no name is
+  pub is_one_of-word : (xs : List A) (w : Word) (t : Lexeme) → Is w t → is_one_of word_of xs t ≡ is_spelled_as word_of xs w
+  is_one_of-word [] w t h = refl
+  is_one_of-word (x ∷ xs) w t h =
+      ap (λ v. v || is_one_of word_of xs t) (is_word-other (word_of x) w t h) ∙ ap (λ v. are_same (word_of x) w || v) (is_one_of-word xs w t h)
+
+  pub is_one_of-name : (xs : List A) (t : Lexeme) → IsName t → is_one_of word_of xs t ≡ false
+  is_one_of-name [] t h = refl
+  is_one_of-name (x ∷ xs) t h = ap (λ v. v || is_one_of word_of xs t) (is_word-name (word_of x) t h) ∙ is_one_of-name xs t h

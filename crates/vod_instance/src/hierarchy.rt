@@ -130,10 +130,10 @@ impl Phrase for ConnectionPhrase {
     ghost reading = { connection_form.read };
 
     fn read(reader: Reader<'_>, at: &mut usize) -> Result<NamedConnection, ParseFault> {
-        let place = reader.word(at, Word::Period)?;
+        let period = reader.word(at, Word::Period)?;
         let name = reader.name(at)?;
         reader.word(at, Word::OpenParen)?;
-        connected_to(reader, at, place, name)
+        connected_to(reader, at, period, name)
     }
 }
 

@@ -1,5 +1,5 @@
 //! What the forms of gates and instances keep.
-ghost use Rattle.std.specs.Prelude.{◌≡◌, [], ◌∷◌, true, List, Option};
+ghost use Rattle.std.specs.Prelude.{◌≡◌, [], ◌∷◌, true, false, List, Option};
 ghost use Rattle.vod_expr.specs.Grammar.{Lexeme, IsName};
 ghost use Rattle.vod_tree.specs.declared.instance.Gate.{Gate};
 ghost use Rattle.vod_tree.specs.declared.instance.GateKind.{GateKind};
@@ -7,8 +7,9 @@ ghost use Rattle.vod_tree.specs.declared.instance.Instances.{Instances};
 ghost use Rattle.vod_grammar.specs.Form.{Sight};
 ghost use Rattle.vod_grammar.specs.Laws.{Laws, Begun};
 ghost use Rattle.vod_grammar.specs.Words.{Is};
+ghost use Rattle.vod_grammar.specs.declared.word.Word.{Word};
 ghost use Rattle.vod_instance.specs.Gates.{IsGate, gate_word};
-ghost use Rattle.vod_instance.specs.GatesForm.{gate_form, starts_gate};
+ghost use Rattle.vod_instance.specs.GatesForm.{gate_form, is_gate_word, starts_gate};
 ghost use Rattle.vod_instance.specs.Instances.{AreInstances};
 ghost use Rattle.vod_instance.specs.InstancesForm.{instances_form};
 
@@ -16,7 +17,7 @@ use vod_expr::{answer_before, none_begins, one_answer};
 use vod_grammar::phrases_are_exact;
 
 /// Gates are read exactly, and refused at the first token with which none goes on: the phrases of their form are the gates,
-/// whatever follows. Each begins with the word of its kind, and each such word begins some.
+/// whatever follows. Each begins with the word of its kind, and each such word begins some; no other word does, and no name.
 pub fn gates_are_exact()
     ensures laws { Laws gate_form }
     ensures phrase { (m : Sight) (ts : List Lexeme) (x : Gate) (b : Option Lexeme) → gate_form.phrase m ts x b → IsGate ts x }
@@ -26,6 +27,8 @@ pub fn gates_are_exact()
     ensures starts { (k : GateKind) (t : Lexeme) → Is (gate_word k) t → starts_gate t ≡ true }
     ensures word { (t : Lexeme) → starts_gate t ≡ true → (k : GateKind) × Is (gate_word k) t }
     ensures begins { (t : Lexeme) → starts_gate t ≡ true → Begun gate_form.phrase (t ∷ []) }
+    ensures other { (w : Word) (t : Lexeme) → Is w t → starts_gate t ≡ is_gate_word w }
+    ensures name { (t : Lexeme) → IsName t → starts_gate t ≡ false }
 {
     phrases_are_exact();
 }

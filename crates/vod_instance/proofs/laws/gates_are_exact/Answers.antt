@@ -1,4 +1,4 @@
-use Rattle.vod_instance.specs.GatesLaws.{gate_is, gate_fit, gate_laws, gate_shallow, gate_first, gate_starts, starts_word, gate_begins}
+use Rattle.vod_instance.specs.GatesLaws.{gate_is, gate_fit, gate_laws, gate_shallow, gate_first, gate_starts, starts_word, gate_begins, gate_other, gate_name}
 use Rattle.vod_instance.proofs.laws.gates_are_exact.Goals as goal
 
 pub returns-clause-laws : goal.returns-clause-laws
@@ -24,3 +24,9 @@ returns-clause-word c = starts_word
 
 pub returns-clause-begins : goal.returns-clause-begins
 returns-clause-begins c = gate_begins c.phrases_are_exact.ensures.before
+
+pub returns-clause-other : goal.returns-clause-other
+returns-clause-other c = gate_other
+
+pub returns-clause-name : goal.returns-clause-name
+returns-clause-name c = gate_name

@@ -1,4 +1,4 @@
-use Rattle.std.proofs.Common.{ℕ, ◌<◌, [], arith}
+use Rattle.std.proofs.Common.{◌<◌, [], arith}
 use Rattle.vod_instance.specs.FirstTokens.{Expressions}
 use Rattle.vod_instance.specs.InstancesLaws.{instances_are, instances_fit, instances_laws, instances_shallow, instances_first, instances_begin}
 use Rattle.vod_instance.proofs.laws.instances_are_exact.Goals as goal
