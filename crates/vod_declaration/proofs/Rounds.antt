@@ -1,5 +1,5 @@
 -- A round of a list in which each part hangs on those before it.
-use Rattle.std.proofs.Common.{◌≡◌, ℕ, suc, List, [], ◌∷◌, ◌++◌, Bool, true, cond, None, Result, Err, sym, ◌∙◌, ap, subst}
+use Rattle.std.proofs.Common.{◌≡◌, ℕ, suc, List, [], ◌∷◌, ◌++◌, true, cond, Result, Err, sym, ◌∙◌, ap, subst}
 use Rattle.vod_expr.specs.Answer.{fault_at}
 use Rattle.vod_expr.specs.Grammar.{Lexeme}
 use Rattle.vod_expr.specs.declared.ParseFault.{ParseFault}

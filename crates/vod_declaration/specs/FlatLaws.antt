@@ -4,7 +4,7 @@ use Rattle.vod_expr.specs.Grammar.{Lexeme}
 use Rattle.vod_grammar.specs.EitherLaws.{either_laws}
 use Rattle.vod_grammar.specs.Form.{Form, Before, a_word, in_turn, in_first, in_second, in_led, in_other, in_next, in_later, word_form, name_form, expression_form, give, then, mapped, either, behind, separated, flag, repeated}
 use Rattle.vod_grammar.specs.Laws.{Laws}
-use Rattle.vod_grammar.specs.PartLaws.{mapped_laws, behind_laws, separated_laws}
+use Rattle.vod_grammar.specs.PartLaws.{mapped_laws}
 use Rattle.vod_grammar.specs.RepeatLaws.{HasToken, repeated_laws}
 use Rattle.vod_grammar.specs.ThenLaws.{then_laws}
 use Rattle.vod_grammar.specs.TokenLaws.{word_laws, name_laws, give_laws}

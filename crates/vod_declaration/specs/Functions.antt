@@ -1,5 +1,5 @@
 -- The header and the declarations of a function: which tokens are which tree (IEEE 1364-2005, A.2.6, A.2.7).
-use Rattle.std.specs.Prelude.{ℕ, Bool, List, [], ◌∷◌, ◌++◌, Option, None, Some}
+use Rattle.std.specs.Prelude.{ℕ, Bool, List, [], ◌∷◌, ◌++◌, Option}
 use Rattle.vod_tree.specs.declared.declaration.Range.{Range}
 use Rattle.vod_tree.specs.declared.ident.Ident.{Ident}
 use Rattle.vod_tree.specs.declared.«module».FunctionDeclaration.{FunctionDeclaration}

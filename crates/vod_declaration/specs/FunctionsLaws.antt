@@ -1,18 +1,17 @@
 -- The forms of a function's header and declarations are exact.
-use Rattle.std.proofs.Common.{◌≡◌, ℕ, Bool, true, false, ◌||◌, List, [], ◌∷◌, ◌++◌, Option, None, Some, refl, sym, ◌∙◌, ap}
+use Rattle.std.proofs.Common.{◌≡◌, ℕ, Bool, true, false, ◌||◌, List, [], ◌∷◌, ◌++◌, Option, None, Some, refl, ap}
 use Rattle.vod_tree.specs.declared.«module».FunctionDeclaration.{FunctionDeclaration}
 use Rattle.vod_tree.specs.declared.«module».FunctionDeclaration.TheVariants as declaration
 use Rattle.vod_tree.specs.declared.«module».FunctionInput.{FunctionInput}
 use Rattle.vod_tree.specs.declared.«module».FunctionInput.TheVariants as input
 use Rattle.vod_tree.specs.declared.«module».FunctionPort.{FunctionPort}
 use Rattle.vod_tree.specs.declared.«module».FunctionVariables.{FunctionVariables}
-use Rattle.vod_tree.specs.declared.ident.Ident.{Ident}
 use Rattle.vod_expr.specs.Grammar.{Lexeme}
-use Rattle.vod_grammar.specs.Form.{Form, Sight, Before, a_word, nothing as no_token, in_turn, changed, led, unled, word_form, name_form, expression_form, mapped, then, give}
+use Rattle.vod_grammar.specs.Form.{Sight, Before, a_word, nothing as no_token, in_turn, changed, led, unled, word_form, name_form, expression_form, mapped, give}
 use Rattle.vod_grammar.specs.ListLaws.{Many, none, more, ReadBefore, many_of, of_many}
 use Rattle.vod_grammar.specs.Read.{first, passes}
 use Rattle.vod_grammar.specs.RepeatLaws.{HasToken}
-use Rattle.vod_grammar.specs.WordLaws.{is_word-is, is_word-other, is_word-name}
+use Rattle.vod_grammar.specs.WordLaws.{is_word-is, is_word-other}
 use Rattle.vod_grammar.specs.Words.{Is, is_word}
 use Rattle.vod_grammar.specs.declared.word.Word.TheVariants as word
 use Rattle.vod_declaration.specs.FlatLaws.{Flat, word_flat, name_flat, give_flat, mapped_flat, then_flat, either_flat, enclosed_flat, repeated_flat}
@@ -20,7 +19,7 @@ use Rattle.vod_declaration.specs.Functions.{IsFunctionPort, IsInput, AreInputs, 
 use Rattle.vod_declaration.specs.FunctionsForm.{function_port, first_input, function_input, function_inputs, function_variables, function_declaration, function_declarations, starts_function_declaration}
 use Rattle.vod_declaration.specs.Parts.{IsIdent, IsOptional, AreFurther, nothing, something}
 use Rattle.vod_declaration.specs.PartsForm.{enclosed}
-use Rattle.vod_declaration.specs.PartsLaws.{Are, Of, Avoids, enclosed_end, ident_unworded, idents_are, of_idents, is_enclosed, name_end}
+use Rattle.vod_declaration.specs.PartsLaws.{Are, Of, enclosed_end, ident_unworded, idents_are, of_idents, is_enclosed, name_end}
 use Rattle.vod_declaration.specs.RangesLaws.{typed_end, typed_flat, typed_list_end, typed_list_flat, is_typed, is_typed_list}
 
 -- behind `input` of a header

@@ -1,5 +1,5 @@
 -- How declarations are read.
-use Rattle.std.specs.Prelude.{Bool, ◌||◌, List, Option, None, Some}
+use Rattle.std.specs.Prelude.{Bool, ◌||◌}
 use Rattle.vod_tree.specs.declared.declaration.NetDeclaration.{NetDeclaration}
 use Rattle.vod_tree.specs.declared.declaration.RegDeclaration.{RegDeclaration}
 use Rattle.vod_tree.specs.declared.declaration.Register.{Register}

@@ -1,5 +1,5 @@
 -- The forms of declarations are exact.
-use Rattle.std.proofs.Common.{◌≡◌, Bool, true, false, ◌||◌, List, [], ◌∷◌, ◌++◌, Option, None, Some, refl, ap, ◌∙◌}
+use Rattle.std.proofs.Common.{◌≡◌, Bool, true, false, ◌||◌, List, [], ◌∷◌, ◌++◌, Option, None, refl, ap}
 use Rattle.vod_tree.specs.declared.declaration.NetDeclaration.{NetDeclaration}
 use Rattle.vod_tree.specs.declared.declaration.RegDeclaration.{RegDeclaration}
 use Rattle.vod_tree.specs.declared.declaration.Register.{Register}
@@ -8,7 +8,7 @@ use Rattle.vod_tree.specs.declared.declaration.VariableDeclaration.{VariableDecl
 use Rattle.vod_tree.specs.declared.«module».ItemKind.{ItemKind}
 use Rattle.vod_tree.specs.declared.«module».ItemKind.TheVariants as kind
 use Rattle.vod_expr.specs.Grammar.{Lexeme, IsName, ident_of}
-use Rattle.vod_grammar.specs.Form.{Form, Sight, a_word, a_name, nothing as no_token, in_turn, changed, led, unled, name_form, expression_form, mapped, flag, either, then}
+use Rattle.vod_grammar.specs.Form.{Form, Sight, a_word, a_name, nothing as no_token, in_turn, changed, led, unled, name_form, expression_form, mapped, flag, either}
 use Rattle.vod_grammar.specs.ListLaws.{ReadBefore}
 use Rattle.vod_grammar.specs.Read.{first, passes}
 use Rattle.vod_grammar.specs.WordLaws.{is_word-is, is_word-other, is_word-name}
@@ -18,7 +18,6 @@ use Rattle.vod_grammar.specs.declared.word.Word.TheVariants as word
 use Rattle.vod_declaration.specs.FlatLaws.{Flat, name_flat, mapped_flat, then_flat, either_flat, behind_flat, flag_flat, listed_flat}
 use Rattle.vod_declaration.specs.Items.{AreNets, AreVariables, IsRegister, AreRegisters, IsDeclaration, nets_of, variables_of, registers_of, nets, variables, value, memory, registers, input, output, output_reg, wire, reg, integer, parameter, localparam}
 use Rattle.vod_declaration.specs.ItemsForm.{nets as nets_form, variables as variables_form, register_form, registers as registers_form, input_item, output_item, wire_item, reg_item, integer_item, parameter_item, localparam_item, declaration_form, starts_declaration}
-use Rattle.vod_declaration.specs.Parameters.{AreParameters}
 use Rattle.vod_declaration.specs.ParametersForm.{parameters}
 use Rattle.vod_declaration.specs.ParametersLaws.{parameters_are, of_parameters, parameters_flat}
 use Rattle.vod_declaration.specs.Parts.{IsIdent}
@@ -27,7 +26,7 @@ use Rattle.vod_declaration.specs.PartsLaws.{Are, Of, Avoids, Ends, Unworded, avo
 use Rattle.vod_declaration.specs.Ports.{IsValue, plain, initial}
 use Rattle.vod_declaration.specs.PortsForm.{valued, value_form}
 use Rattle.vod_declaration.specs.RangesForm.{bounds, typed}
-use Rattle.vod_declaration.specs.RangesLaws.{bounds_are, bounds_flat, range_avoids, range_from, typed_flat, typed_list_end, typed_list_flat, is_typed_list}
+use Rattle.vod_declaration.specs.RangesLaws.{bounds_are, bounds_flat, range_avoids, range_from, typed_list_end, typed_list_flat, is_typed_list}
 use Rattle.vod_declaration.specs.ValuesLaws.{valued_is, values_are, of_values, value_unworded, valued_flat, value_flat}
 
 -- nets

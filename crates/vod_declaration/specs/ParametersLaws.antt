@@ -1,14 +1,13 @@
 -- The forms of parameters are exact.
-use Rattle.std.proofs.Common.{◌≡◌, ℕ, true, false, List, [], ◌∷◌, ◌++◌, Option, None, Some, refl}
+use Rattle.std.proofs.Common.{◌≡◌, ℕ, true, false, List, [], ◌∷◌, ◌++◌, Option, None, Some}
 use Rattle.vod_tree.specs.declared.declaration.ParameterDeclaration.{ParameterDeclaration}
 use Rattle.vod_tree.specs.declared.declaration.ParameterPort.{ParameterPort}
 use Rattle.vod_tree.specs.declared.declaration.ParameterPort.TheVariants as port
 use Rattle.vod_tree.specs.declared.declaration.ParameterType.{ParameterType}
 use Rattle.vod_tree.specs.declared.declaration.Setting.{Setting}
 use Rattle.vod_tree.specs.declared.declaration.TypedParameter.{TypedParameter}
-use Rattle.vod_tree.specs.declared.ident.Ident.{Ident}
 use Rattle.vod_expr.specs.Grammar.{Lexeme, ident_of}
-use Rattle.vod_grammar.specs.Form.{Form, Sight, a_word, a_name, nothing as no_token, in_turn, changed, led, unled, word_form, name_form, expression_form, mapped, then}
+use Rattle.vod_grammar.specs.Form.{Sight, a_word, a_name, nothing as no_token, in_turn, changed, led, unled, word_form, name_form, expression_form, mapped, then}
 use Rattle.vod_grammar.specs.ListLaws.{ReadBefore}
 use Rattle.vod_grammar.specs.Read.{first, passes, place_of}
 use Rattle.vod_grammar.specs.WordLaws.{is_word-other, is_word-name}

@@ -1,10 +1,10 @@
 -- What the phrases of parts are, and which phrases such parts are.
-use Rattle.std.proofs.Common.{◌≡◌, ℕ, Bool, true, false, List, [], ◌∷◌, ◌++◌, Option, None, Some, refl, sym, ◌∙◌, ap, subst, append_assoc, append-nil}
+use Rattle.std.proofs.Common.{◌≡◌, Bool, true, false, List, [], ◌∷◌, ◌++◌, Option, Some, refl, sym, ◌∙◌, ap, subst, append_assoc, append-nil}
 use Rattle.vod_tree.specs.declared.expr.Expr.{Expr}
 use Rattle.vod_tree.specs.declared.ident.Ident.{Ident}
 use Rattle.vod_expr.specs.Grammar.{Lexeme, IsExpr, ident_of}
 use Rattle.vod_grammar.specs.ExpressionLaws.{closes}
-use Rattle.vod_grammar.specs.Form.{Form, Sight, ExpressionPhrase, RepeatedPhrase, a_word, a_name, an_expression, nothing as no_token, in_turn, changed, led, unled, no_more as no_part, one_more as one_part, word_form, name_form, expression_form, mapped, behind, separated, flag}
+use Rattle.vod_grammar.specs.Form.{Form, Sight, ExpressionPhrase, a_word, a_name, an_expression, nothing as no_token, in_turn, changed, led, unled, no_more as no_part, one_more as one_part, word_form, name_form, expression_form, mapped, separated, flag}
 use Rattle.vod_grammar.specs.FrontLaws.{first-append}
 use Rattle.vod_grammar.specs.ListLaws.{ReadBefore}
 use Rattle.vod_grammar.specs.Read.{first, passes}
@@ -12,7 +12,7 @@ use Rattle.vod_grammar.specs.WordLaws.{is_word-is, is_word-other, is_word-name}
 use Rattle.vod_grammar.specs.Words.{Is, is_word, spelling, are_same}
 use Rattle.vod_grammar.specs.declared.word.Word.{Word}
 use Rattle.vod_grammar.specs.declared.word.Word.TheVariants as word
-use Rattle.vod_declaration.specs.Parts.{IsIdent, IsFlag, IsOptional, AreFurther, AreListed, ident, absent, present, no_more, one_more, listed}
+use Rattle.vod_declaration.specs.Parts.{IsIdent, IsFlag, AreFurther, AreListed, ident, absent, present, no_more, one_more, listed}
 use Rattle.vod_declaration.specs.PartsForm.{further, listed as listed_form, enclosed}
 
 -- A phrase whose value hangs on its last part alone is what is said of that part.

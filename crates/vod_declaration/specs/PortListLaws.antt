@@ -1,22 +1,21 @@
 -- The forms of a module's ports are exact.
-use Rattle.std.proofs.Common.{◌≡◌, Bool, true, false, List, [], ◌∷◌, ◌++◌, Option, None, Some, refl, sym, ◌∙◌, ap, subst, append_assoc, append-nil}
+use Rattle.std.proofs.Common.{◌≡◌, Bool, true, false, List, [], ◌∷◌, ◌++◌, Option, Some, refl, sym, ◌∙◌, subst, append_assoc, append-nil}
 use Rattle.vod_tree.specs.declared.declaration.DeclaredPort.{DeclaredPort}
 use Rattle.vod_tree.specs.declared.declaration.DeclaredPort.TheVariants as port
 use Rattle.vod_tree.specs.declared.declaration.Ports.{Ports}
 use Rattle.vod_tree.specs.declared.declaration.Ports.TheVariants as list
 use Rattle.vod_tree.specs.declared.ident.Ident.{Ident}
 use Rattle.vod_expr.specs.Grammar.{Lexeme}
-use Rattle.vod_grammar.specs.Form.{Form, Sight, RepeatedByPhrase, RepeatedByDeep, a_word, nothing as no_token, in_turn, changed, led, unled, at_last, one_on, in_nearest, in_further, word_form, name_form, expression_form, mapped, then, either, behind, separated, give}
-use Rattle.vod_grammar.specs.FrontLaws.{first-append}
+use Rattle.vod_grammar.specs.Form.{Form, Sight, a_word, nothing as no_token, in_turn, changed, led, unled, at_last, one_on, in_nearest, in_further, word_form, name_form, expression_form, mapped, then, either, behind, separated, give}
 use Rattle.vod_grammar.specs.ListLaws.{ReadBefore}
 use Rattle.vod_grammar.specs.Read.{first, passes}
 use Rattle.vod_grammar.specs.RepeatByLaws.{repeated_by_laws}
 use Rattle.vod_grammar.specs.WordLaws.{is_word-is, is_word-other}
 use Rattle.vod_grammar.specs.Words.{Is, is_word}
 use Rattle.vod_grammar.specs.declared.word.Word.TheVariants as word
-use Rattle.vod_declaration.specs.FlatLaws.{Flat, Shallow, word_flat, name_flat, give_flat, mapped_flat, then_flat, either_flat, behind_flat, behind_token, separated_flat}
+use Rattle.vod_declaration.specs.FlatLaws.{Flat, word_flat, name_flat, give_flat, mapped_flat, then_flat, either_flat, behind_flat, behind_token, separated_flat}
 use Rattle.vod_declaration.specs.Parts.{IsIdent, AreListed}
-use Rattle.vod_declaration.specs.PartsLaws.{Are, Avoids, Ends, avoids_more, comma_ends, paren_ends, ident_unworded, idents_are, of_idents, listed_are, listed_unworded, of_listed, part_end, word_end}
+use Rattle.vod_declaration.specs.PartsLaws.{Are, Ends, avoids_more, comma_ends, paren_ends, ident_unworded, idents_are, of_idents, listed_are, listed_unworded, of_listed, part_end, word_end}
 use Rattle.vod_declaration.specs.Ports.{IsPort, ArePorts, IsPortList, no_port, declared, further, further_value, absent, empty, names, ports}
 use Rattle.vod_declaration.specs.PortsForm.{input_port, output_port, port_form, is_reg, ends_in_reg, more_ports, declared_ports, some_ports, port_list}
 use Rattle.vod_declaration.specs.PortsLaws.{IsNext, directed, name_alone, name_valued, input_is, output_is, port_from, port_avoids, port_reg, next_is, of_next, input_flat, output_flat, port_flat}

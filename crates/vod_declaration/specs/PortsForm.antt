@@ -1,5 +1,5 @@
 -- How ports are read.
-use Rattle.std.specs.Prelude.{ℕ, Bool, true, false, List, [], ◌∷◌, Option, None, Some}
+use Rattle.std.specs.Prelude.{ℕ, Bool, true, false, List, [], ◌∷◌, None, Some}
 use Rattle.vod_tree.specs.declared.declaration.DeclaredPort.{DeclaredPort}
 use Rattle.vod_tree.specs.declared.declaration.DeclaredPort.TheVariants as port
 use Rattle.vod_tree.specs.declared.declaration.NetPort.{NetPort}

@@ -1,26 +1,25 @@
 -- The form of ports is exact.
-use Rattle.std.proofs.Common.{◌≡◌, ◌⊎◌, inl, inr, ℕ, Bool, true, false, List, [], ◌∷◌, ◌++◌, Option, None, Some, refl, sym, ◌∙◌, ap, subst, append_assoc, append-nil}
+use Rattle.std.proofs.Common.{◌≡◌, ℕ, Bool, true, false, List, ◌∷◌, ◌++◌, Option, refl, ◌∙◌}
 use Rattle.vod_tree.specs.declared.declaration.DeclaredPort.{DeclaredPort}
 use Rattle.vod_tree.specs.declared.declaration.DeclaredPort.TheVariants as port
 use Rattle.vod_tree.specs.declared.declaration.NetPort.{NetPort}
 use Rattle.vod_tree.specs.declared.declaration.RegPort.{RegPort}
 use Rattle.vod_tree.specs.declared.declaration.Setting.{Setting}
-use Rattle.vod_tree.specs.declared.declaration.Value.{Value}
 use Rattle.vod_tree.specs.declared.ident.Ident.{Ident}
 use Rattle.vod_expr.specs.Grammar.{Lexeme, IsName, ident_of}
-use Rattle.vod_grammar.specs.Form.{Form, Sight, a_word, a_name, nothing as no_token, in_turn, changed, led, unled, word_form, name_form, expression_form, mapped, then, flag, either, give}
+use Rattle.vod_grammar.specs.Form.{Sight, a_name, nothing as no_token, in_turn, changed, led, unled, name_form, expression_form, mapped, flag, either, give}
 use Rattle.vod_grammar.specs.ListLaws.{ReadBefore}
-use Rattle.vod_grammar.specs.Read.{first, passes}
-use Rattle.vod_grammar.specs.WordLaws.{is_word-is, is_word-other}
-use Rattle.vod_grammar.specs.Words.{Is, is_word, are_same}
+use Rattle.vod_grammar.specs.Read.{first}
+use Rattle.vod_grammar.specs.WordLaws.{is_word-other}
+use Rattle.vod_grammar.specs.Words.{Is, are_same}
 use Rattle.vod_grammar.specs.declared.word.Word.{Word}
 use Rattle.vod_grammar.specs.declared.word.Word.TheVariants as word
-use Rattle.vod_declaration.specs.FlatLaws.{Flat, word_flat, name_flat, give_flat, mapped_flat, then_flat, either_flat, flag_flat}
+use Rattle.vod_declaration.specs.FlatLaws.{Flat, name_flat, give_flat, mapped_flat, then_flat, either_flat, flag_flat}
 use Rattle.vod_declaration.specs.Parameters.{IsSetting, setting, named}
 use Rattle.vod_declaration.specs.ParametersLaws.{setting_unworded}
-use Rattle.vod_declaration.specs.Parts.{IsIdent, IsFlag, ident}
-use Rattle.vod_declaration.specs.PartsLaws.{Are, Of, Avoids, Ends, avoids_more, expression_end, flag_avoids, flag_is, is_flag, ident_unworded, idents_are, of_idents, name_end, part_end}
-use Rattle.vod_declaration.specs.Ports.{IsNetPort, IsPort, IsValue, net_port_of, reg_port_of, net, input, output, output_reg}
+use Rattle.vod_declaration.specs.Parts.{IsIdent, ident}
+use Rattle.vod_declaration.specs.PartsLaws.{Are, Of, Avoids, Ends, expression_end, flag_avoids, flag_is, is_flag, ident_unworded, of_idents, name_end, part_end}
+use Rattle.vod_declaration.specs.Ports.{IsNetPort, IsPort, net_port_of, reg_port_of, net, input, output, output_reg}
 use Rattle.vod_declaration.specs.PortsForm.{net_port, reg_port, input_port, output_port, further_port, port_form, is_reg, value_form}
 use Rattle.vod_declaration.specs.RangesForm.{typed}
 use Rattle.vod_declaration.specs.RangesLaws.{typed_end, typed_flat, is_typed, range_avoids}

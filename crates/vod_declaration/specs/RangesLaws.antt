@@ -2,7 +2,7 @@
 use Rattle.std.proofs.Common.{◌≡◌, ℕ, Bool, false, List, [], ◌∷◌, ◌++◌, Option, None, Some, refl, ◌∙◌}
 use Rattle.vod_tree.specs.declared.declaration.Range.{Range}
 use Rattle.vod_expr.specs.Grammar.{Lexeme}
-use Rattle.vod_grammar.specs.Form.{Form, Sight, a_word, an_expression, nothing as no_token, in_turn, changed, led, unled, word_form, expression_form, give, then, mapped, flag}
+use Rattle.vod_grammar.specs.Form.{Form, Sight, a_word, an_expression, nothing as no_token, in_turn, changed, led, unled, word_form, expression_form, then, flag}
 use Rattle.vod_grammar.specs.ListLaws.{ReadBefore}
 use Rattle.vod_grammar.specs.Read.{first, passes}
 use Rattle.vod_grammar.specs.WordLaws.{is_word-other}
@@ -12,7 +12,7 @@ use Rattle.vod_grammar.specs.declared.word.Word.TheVariants as word
 use Rattle.vod_declaration.specs.FlatLaws.{Flat, word_flat, give_flat, mapped_flat, then_flat, either_flat, flag_flat, listed_flat}
 use Rattle.vod_declaration.specs.Parts.{IsFlag, IsOptional, AreListed, nothing, something}
 use Rattle.vod_declaration.specs.PartsForm.{listed}
-use Rattle.vod_declaration.specs.PartsLaws.{Are, Of, Avoids, Unworded, avoids_more, listed_unworded, flag_avoids, flag_is, is_flag, is_listed, listed_end, word_end}
+use Rattle.vod_declaration.specs.PartsLaws.{Are, Of, Avoids, Unworded, avoids_more, listed_unworded, flag_is, is_flag, is_listed, listed_end, word_end}
 use Rattle.vod_declaration.specs.Ranges.{IsRange, range, bounds}
 use Rattle.vod_declaration.specs.RangesForm.{bounds as bounds_form, range_form, typed}
 

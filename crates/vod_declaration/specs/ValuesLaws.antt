@@ -1,9 +1,9 @@
 -- The form of a name with a value or without one is exact.
-use Rattle.std.proofs.Common.{◌≡◌, List, [], ◌∷◌, Option, None, Some, refl}
+use Rattle.std.proofs.Common.{List, ◌∷◌, Option, None, Some}
 use Rattle.vod_tree.specs.declared.declaration.Value.{Value}
 use Rattle.vod_tree.specs.declared.ident.Ident.{Ident}
 use Rattle.vod_expr.specs.Grammar.{Lexeme, IsName, ident_of}
-use Rattle.vod_grammar.specs.Form.{Form, Sight, a_name, nothing as no_token, in_turn, changed, led, unled, name_form, expression_form}
+use Rattle.vod_grammar.specs.Form.{Sight, a_name, nothing as no_token, in_turn, changed, led, unled, name_form, expression_form}
 use Rattle.vod_grammar.specs.WordLaws.{is_word-name}
 use Rattle.vod_grammar.specs.declared.word.Word.TheVariants as word
 use Rattle.vod_declaration.specs.FlatLaws.{Flat, name_flat, give_flat, mapped_flat, then_flat, either_flat}

@@ -1,5 +1,5 @@
 //! The header and the declarations of a function, read from the tokens of a source.
-ghost use Rattle.std.specs.Prelude.{◌≡◌, [], None};
+ghost use Rattle.std.specs.Prelude.{◌≡◌, None};
 ghost use Rattle.vod_grammar.specs.Read.{first, passes, repeat};
 ghost use Rattle.vod_grammar.specs.State.{left, Gives, GivesAs, IsOfSource};
 ghost use Rattle.vod_declaration.specs.FunctionsForm.{first_input, function_declaration, function_declarations, function_input, function_inputs, function_port, function_variables, inputs, starts_function_declaration};

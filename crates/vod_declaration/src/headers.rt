@@ -1,7 +1,7 @@
 //! Ports, read from the tokens of a source.
 ghost use Rattle.std.specs.Prelude.{◌≡◌, [], ◌∷◌};
 ghost use Rattle.vod_grammar.specs.State.{left, Gives, IsOfSource};
-ghost use Rattle.vod_declaration.specs.PortsForm.{declared_ports, further_port, input_port, is_reg, more_ports, net_port, output_port, port_form, port_list, reg_port, some_ports, valued, value_form};
+ghost use Rattle.vod_declaration.specs.PortsForm.{further_port, input_port, is_reg, more_ports, net_port, output_port, port_form, port_list, reg_port, some_ports, valued, value_form};
 
 use crate::ranges::range;
 use sqlite_items::Items;

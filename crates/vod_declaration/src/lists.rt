@@ -1,5 +1,5 @@
 //! Parts behind others.
-ghost use Rattle.std.specs.Prelude.{◌≡◌, [], ◌∷◌};
+ghost use Rattle.std.specs.Prelude.{[], ◌∷◌};
 ghost use Rattle.vod_grammar.specs.Read.{behind, bind, give, repeat, word_read};
 ghost use Rattle.vod_grammar.specs.State.{left, Gives, GivesAs, IsOfSource};
 ghost use Rattle.vod_grammar.specs.Words.{is_word};

@@ -1,10 +1,10 @@
 //! The longest run of tokens with which an expression begins.
 
-ghost use Rattle.std.specs.Prelude.{◌≡◌, ◌≢◌, ◌≤◌, ◌+◌, ℕ, length, take, drop, All, Ok, Err, IfOk, IfErr, MatchResult};
+ghost use Rattle.std.specs.Prelude.{◌≡◌, ◌≢◌, ◌≤◌, ◌+◌, ℕ, length, drop, All, Ok, Err, IfOk, IfErr, MatchResult};
 ghost use Rattle.vod_token.specs.Span.{IsTokenOf};
 ghost use Rattle.vod_tree.specs.declared.expr.Expr.{Expr};
 ghost use Rattle.vod_expr.specs.Answer.{IsRead, IsRefused, expr_read};
-ghost use Rattle.vod_expr.specs.Grammar.{IsExpr, IsLongest, lexemes};
+ghost use Rattle.vod_expr.specs.Grammar.{lexemes};
 ghost use Rattle.vod_expr_machine.specs.Machine.{start};
 ghost use Rattle.vod_expr.specs.Reading.{Reads, fault_from, answered};
 ghost use Rattle.vod_expr_machine.specs.View.{state_of};

@@ -2,7 +2,7 @@
 use Rattle.std.proofs.Common.{◌≡◌, ◌⊎◌, inl, inr, ℕ, List, [], ◌∷◌, ◌++◌, Option, None, Some, Bool, true, false, cond, refl, sym, ◌∙◌, ap, subst}
 use Rattle.vod_expr.specs.Grammar.{Lexeme}
 use Rattle.vod_expr.specs.declared.ParseFault.{ParseFault}
-use Rattle.vod_expr.specs.declared.ParseFault.TheVariants.{At, Statement}
+use Rattle.vod_expr.specs.declared.ParseFault.TheVariants.{Statement}
 use Rattle.vod_grammar.specs.Form.{Form, Alone, Before, the_one, the_other, in_the_one, in_the_other, choose}
 use Rattle.vod_grammar.specs.FrontLaws.{first-append, first_token}
 use Rattle.vod_grammar.specs.Laws.{Laws, Begun, Taken, Stopped, Halted, Unfinished, Passed, AreLexemes}

@@ -8,7 +8,7 @@ use Rattle.vod_expr.specs.Grammar.{Lexeme, IsName, IsNumber, IsExpr, ident_of}
 use Rattle.vod_expr.specs.declared.ParseFault.TheVariants.{Statement}
 use Rattle.vod_grammar.specs.Words.{Is, is_word}
 use Rattle.vod_grammar.specs.Read as reads
-use Rattle.vod_grammar.specs.Read.{Read, Got, Failed, Reading, first, passes}
+use Rattle.vod_grammar.specs.Read.{Read, Failed, Reading, first, passes}
 use Rattle.vod_grammar.specs.declared.word.Word.{Word}
 use Rattle.vod_grammar.specs.declared.word.Word.TheVariants as words
 

@@ -1,8 +1,8 @@
 -- A form that reads as another does, and has the same phrases.
-use Rattle.std.proofs.Common.{◌≡◌, ◌⊎◌, inl, inr, ℕ, List, [], ◌∷◌, ◌++◌, Option, None, sym, ◌∙◌}
+use Rattle.std.proofs.Common.{◌≡◌, ◌⊎◌, inl, inr, List, [], ◌∷◌, ◌++◌, Option, None, sym, ◌∙◌}
 use Rattle.vod_expr.specs.Grammar.{Lexeme}
 use Rattle.vod_expr.specs.declared.ParseFault.{ParseFault}
-use Rattle.vod_grammar.specs.Form.{Form, Phrase, Depth, Sight, Alone, Before}
+use Rattle.vod_grammar.specs.Form.{Form, Sight, Alone, Before}
 use Rattle.vod_grammar.specs.Laws.{Laws, Begun, Taken, Stopped, Halted, Unfinished, Passed}
 use Rattle.vod_grammar.specs.Read.{Got, first}
 

@@ -1,5 +1,5 @@
 //! Lists of phrases.
-ghost use Rattle.std.specs.Prelude.{◌≡◌, List, []};
+ghost use Rattle.std.specs.Prelude.{List, []};
 ghost use Rattle.vod_expr.specs.Grammar.{Lexeme};
 ghost use Rattle.vod_grammar.specs.Read.{Read, separated, repeat, behind, name_read, expression_read};
 ghost use Rattle.vod_grammar.specs.State.{left, Gives, GivesAs, IsOfSource};

@@ -1,7 +1,7 @@
 //! Words and symbols that are spelled in one way.
 ghost use Rattle.std.specs.Prelude.{◌≡◌, ◌&&◌, ◌==◌};
 ghost use Rattle.std.specs.Str.{bytes_eq};
-ghost use Rattle.vod_grammar.specs.Words.{is_symbol, kind_of, number_of, same_kind, spelling, is_text_of};
+ghost use Rattle.vod_grammar.specs.Words.{is_symbol, kind_of, same_kind, spelling, is_text_of};
 
 use vod_token::TokenKind;
 

@@ -5,7 +5,7 @@ use Rattle.vod_expr.specs.Grammar.{Lexeme}
 use Rattle.vod_tree.specs.declared.expr.Expr.{Expr}
 use Rattle.vod_grammar.specs.Form.{Form, expression_form, mapped, behind, repeated, separated}
 use Rattle.vod_grammar.specs.Read as reads
-use Rattle.vod_grammar.specs.Read.{Read, Reading, Got, Failed, followed, is_next, place_of, rest_of}
+use Rattle.vod_grammar.specs.Read.{Read, Got, Failed, followed, is_next, place_of, rest_of}
 use Rattle.vod_grammar.specs.Words.{is_word}
 use Rattle.vod_grammar.specs.declared.word.Word.TheVariants as word
 use Rattle.vod_instance.specs.InstancesForm.{dotted, dotted_behind, by_name_or_order}

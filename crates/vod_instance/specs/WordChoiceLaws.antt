@@ -6,7 +6,7 @@ use Rattle.vod_grammar.specs.Form.{Sight, WordPhrase, a_word, nothing, MappedPhr
 use Rattle.vod_grammar.specs.Laws.{Laws}
 use Rattle.vod_grammar.specs.PartLaws.{mapped_laws}
 use Rattle.vod_grammar.specs.Read as reads
-use Rattle.vod_grammar.specs.Read.{Got, Failed, first, followed, is_next, passes, place_of, rest_of, refuse}
+use Rattle.vod_grammar.specs.Read.{Got, followed, is_next, place_of, rest_of, refuse}
 use Rattle.vod_grammar.specs.TokenLaws.{word_laws, give_laws}
 use Rattle.vod_grammar.specs.WordLaws.{word_is, is_word-is, is_word-other, is_word-name}
 use Rattle.vod_grammar.specs.Words.{Is, is_word, are_same}

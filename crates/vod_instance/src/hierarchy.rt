@@ -1,7 +1,6 @@
 //! Instances of modules, read from the tokens of a source.
-ghost use Rattle.std.specs.Prelude.{◌≡◌};
 ghost use Rattle.vod_grammar.specs.State.{left, Gives, IsOfSource};
-ghost use Rattle.vod_instance.specs.InstancesForm.{arguments_form, connected_to, connections_behind, instances_form, override_behind, override_form, some_connections};
+ghost use Rattle.vod_instance.specs.InstancesForm.{arguments_form, connected_to, connections_behind, instances_form, override_form, some_connections};
 
 use vod_expr::ParseFault;
 use vod_grammar::{Phrase, Reader, Word, expressions, separated};

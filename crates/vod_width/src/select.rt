@@ -1,10 +1,10 @@
 //! Names, and selects of them (5.2.1, 5.2.2).
-ghost use Rattle.std.specs.Prelude.{◌≡◌, ◌+◌, ◌-◌, ◌^◌, ◌&&◌, min, true, false, Some, None, IfOk};
+ghost use Rattle.std.specs.Prelude.{◌≡◌, ◌-◌, min, true, false, Some, None, IfOk};
 ghost use Rattle.std.specs.Option.{option_copied};
 ghost use Rattle.vod_width.specs.declared.decls.Declared.TheVariants as stands;
 ghost use Rattle.vod_width.specs.Names.{declared};
-ghost use Rattle.vod_width.specs.Sizes.{Looked as Found, own, first, or_zero, in_vector, in_memory, selected, in_wrong_order, is_constant, look_index, look_range};
-ghost use Rattle.vod_width.specs.View.{Sees, Saw, SeesAs, kept, join, fault_of, looked_of, misused_tree, named_of, vector_of, bit_index_tree, word_index_tree, TreeIs};
+ghost use Rattle.vod_width.specs.Sizes.{Looked as Found, own, in_vector, in_memory, selected, in_wrong_order, is_constant, look_index, look_range};
+ghost use Rattle.vod_width.specs.View.{Sees, Saw, SeesAs, kept, join, fault_of, looked_of, misused_tree, named_of, vector_of, bit_index_tree, word_index_tree};
 
 use crate::decls::{Declared, Decls, Vector, WordArray};
 use crate::number::{above, byte, is_found, natural, part_fault, two_bytes};

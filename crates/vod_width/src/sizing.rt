@@ -1,5 +1,5 @@
 //! What an expression is where it stands, and what a constant one stands for.
-ghost use Rattle.std.specs.Prelude.{◌≡◌, ℕ, ◌≤◌, ◌&&◌, List, [], true, false, Some, MatchResult, IfOk, All, Contains};
+ghost use Rattle.std.specs.Prelude.{◌≡◌, ◌≤◌, ◌&&◌, List, [], true, Some, MatchResult, All, Contains};
 ghost use Rattle.vod_bits.specs.Value.{all_known};
 ghost use Rattle.vod_design.specs.Run.{eval, nothing};
 ghost use Rattle.vod_width.specs.declared.types.Fault.{Fault};

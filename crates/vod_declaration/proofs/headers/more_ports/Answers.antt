@@ -3,7 +3,7 @@ use Rattle.std.proofs.lemmas.Result.{err_from_is_err_and}
 use Rattle.vod_tree.specs.declared.declaration.DeclaredPort.{DeclaredPort}
 use Rattle.vod_expr.specs.Grammar.{Lexeme}
 use Rattle.vod_grammar.specs.Form.{behind}
-use Rattle.vod_grammar.specs.Read.{Reading, repeat_by, repeat_by_within, rest_of}
+use Rattle.vod_grammar.specs.Read.{Reading, repeat_by, repeat_by_within}
 use Rattle.vod_grammar.specs.State.{left}
 use Rattle.vod_grammar.specs.Words.{is_word}
 use Rattle.vod_grammar.specs.declared.word.Word.TheVariants.{Comma}
