@@ -1,0 +1,17 @@
+pub mod Label
+pub mod LabelLaws
+pub mod LimitLaws
+pub mod LeftSide
+pub mod LeftSideForm
+pub mod LeftSideLaws
+pub mod Reading
+pub mod Statements
+pub mod StatementForm
+pub mod Depth
+pub mod FirstTokens
+pub mod StatementLaws
+pub mod StatementPhrases
+pub mod BranchLaws
+pub mod StatementFormLaws
+pub mod DepthLaws
+pub mod BelowLaws
