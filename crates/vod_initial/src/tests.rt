@@ -16,7 +16,7 @@ enum Alternative {
     Block(usize),
 }
 
-fn alternative(kind: &InitialKind) -> Alternative {
+fn alternative_of(kind: &InitialKind) -> Alternative {
     match kind {
         InitialKind::Assign(_, _) => Alternative::Assign,
         InitialKind::AssignIndex(_, _, _) => Alternative::AssignIndex,
@@ -43,7 +43,7 @@ fn read(alloc: Global, source: &str) -> Result<(Alternative, usize), ParseFault>
     };
     let mut at = 0;
     let kind = initial_statement(reader, &mut at)?.kind;
-    Ok((alternative(&kind), at))
+    Ok((alternative_of(&kind), at))
 }
 
 #[test]

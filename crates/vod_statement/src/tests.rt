@@ -1,4 +1,6 @@
 //! Sources and the left side or statement that is read from their front, by hand.
+ghost use Rattle.vod_grammar.specs.State.{IsOfSource};
+
 use crate::{Context, left_side, statement};
 use std::alloc::{AllocError, Global};
 use std::process::Abort;
@@ -64,14 +66,26 @@ fn read(alloc: Global, source: &str, part: Part) -> Result<(Alternative, usize),
         source: source.as_bytes(),
         tokens: tokens.as_slice(),
     };
+    match part {
+        Part::LeftSide => left_side_of(reader),
+        Part::Statement(context) => statement_of(reader, context),
+    }
+}
+
+fn left_side_of(reader: Reader<'_>) -> Result<(Alternative, usize), ParseFault>
+    requires { IsOfSource reader }
+{
     let mut at = 0;
-    let alternative = match part {
-        Part::LeftSide => lval_alternative(&left_side(reader, &mut at)?.kind),
-        Part::Statement(context) => {
-            statement_alternative(&statement(reader, &mut at, context)?.kind)
-        }
-    };
-    Ok((alternative, at))
+    let side = left_side(reader, &mut at)?;
+    Ok((lval_alternative(&side.kind), at))
+}
+
+fn statement_of(reader: Reader<'_>, context: Context) -> Result<(Alternative, usize), ParseFault>
+    requires { IsOfSource reader }
+{
+    let mut at = 0;
+    let statement = statement(reader, &mut at, context)?;
+    Ok((statement_alternative(&statement.kind), at))
 }
 
 #[test]
