@@ -191,8 +191,17 @@ fn processes(rt: HostRuntime) {
             Err(ParseFault::At(39)),
         ),
         (
+            "module m; always @(posedge c) q = d; endmodule",
+            Err(ParseFault::At(32)),
+        ),
+        ("module m; always @(posedge c) q <= d", Err(ParseFault::End)),
+        (
             "module m; always @(posedge c) if (a) if (b) q <= 1; else q <= 0; endmodule",
             Ok(1),
+        ),
+        (
+            "module m; always @(posedge c) if (a) else ; endmodule",
+            Err(ParseFault::At(37)),
         ),
         (
             "module m; always @(posedge c) else ; endmodule",
