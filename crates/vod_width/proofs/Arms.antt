@@ -1,6 +1,5 @@
 -- What an expression is, by what its parts are.
-use Rattle.std.proofs.Common.{◌≡◌, ℕ, ◌+◌, ◌≤◌, ◌<◌, min, nat_lt, Bool, true, false, cond, List, [], ◌∷◌, ◌++◌, Option, None, Some, Result, Ok, Err, refl, sym, ◌∙◌, ap, subst, arith}
-use Rattle.std.proofs.Common.{map, take, length, get_or, IfOk, length-take-le}
+use Rattle.std.proofs.Common.{◌≡◌, ℕ, ◌+◌, ◌≤◌, ◌<◌, min, nat_lt, Bool, true, false, cond, List, [], ◌∷◌, ◌++◌, Option, None, Some, Result, Ok, Err, refl, sym, ◌∙◌, ap, subst, arith, map, take, length, get_or, IfOk, length-take-le}
 use Rattle.std.proofs.lemmas.List.{take_more, map-append, length-map}
 use Rattle.std.proofs.lemmas.Bool.Decides.{nat_tests}
 use Rattle.vod_bits.specs.declared.TheConstants.{WIDTH}
@@ -11,23 +10,24 @@ use Rattle.vod_tree.specs.declared.expr.ExprKind.TheFolds.{map-ExprKind}
 use Rattle.vod_tree.specs.declared.expr.ExprKind.TheViews.{roll-ExprKind}
 use Rattle.vod_tree.specs.declared.ident.Number.{Number}
 use Rattle.vod_design.specs.declared.sized.SizedExpr.{SizedExpr}
-use Rattle.vod_design.specs.declared.sized.SizedKind.TheVariants as kind
 use Rattle.vod_design.specs.Values.{bounded, at_size}
+use Rattle.vod_design.specs.declared.sized.SizedKind.TheVariants as kind
+use Rattle.vod_operand.specs.declared.fault.Fault.{Fault}
+use Rattle.vod_operand.specs.declared.fault.Fault.TheVariants.{Width}
+use Rattle.vod_operand.specs.Operands.{Looked, node, first, at_place, look_number}
+use Rattle.vod_operand.specs.Found.{TreeIs, Sees, Saw, looked_of, beside_of, at_place_of, join}
+use Rattle.vod_operand.specs.FaultLaws.{first_append, first_nothing}
+use Rattle.vod_operand.specs.FoundLaws.{sees_of}
+use Rattle.vod_operand.specs.declared.tree.Looked as code
 use Rattle.vod_width.specs.declared.decls.Declared.{Declared}
-use Rattle.vod_width.specs.declared.decls.Declared.TheVariants as stands
-use Rattle.vod_width.specs.declared.types.Fault.{Fault}
-use Rattle.vod_width.specs.declared.types.Fault.TheVariants.{Width}
-use Rattle.vod_width.specs.declared.tree.Looked as code
-use Rattle.vod_width.specs.declared.parts.Parts as parts
 use Rattle.vod_width.specs.Names.{Declaration}
-use Rattle.vod_width.specs.Sizes.{Looked, node, first, at_place, is_constant, look_name, look_number, look_kind, look, inside}
-use Rattle.vod_width.specs.View.{SeesParts, TreeIs, TreeNear, Sees, SeesKind, Saw, looked_of, beside_of, at_place_of, named_of, join}
+use Rattle.vod_width.specs.Sizes.{is_constant, look_name, look_kind, look, inside}
+use Rattle.vod_width.specs.View.{SeesParts, TreeNear, SeesKind, named_of}
 use Rattle.vod_width.proofs.Layers.{Layer, kind_look, look_at, inside_at}
 use Rattle.vod_width.proofs.Whole.{refits, narrow}
-use Rattle.vod_width.proofs.Trees.{first_append}
-use Rattle.vod_width.proofs.Numbers.{first_nothing}
-use Rattle.vod_width.proofs.Selects.{sees_of}
 use Rattle.vod_width.proofs.Ranges.{misused_sees}
+use Rattle.vod_width.specs.declared.decls.Declared.TheVariants as stands
+use Rattle.vod_width.specs.declared.parts.Parts as parts
 
 pub saw : (decls : List Declaration) (c : code.Looked) (e : Expr) → Sees c (look decls e) → Saw c (look decls e)
 saw decls c e h = record { sees = h; refits = refits decls e; narrow = narrow decls e }

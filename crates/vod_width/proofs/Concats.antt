@@ -9,20 +9,22 @@ use Rattle.std.proofs.lemmas.List.Sums.{sum_by-append}
 use Rattle.std.proofs.lemmas.Grind.{flat_map-append}
 use Rattle.vod_bits.specs.declared.TheConstants.{WIDTH}
 use Rattle.vod_design.specs.declared.sized.SizedExpr.{SizedExpr}
-use Rattle.vod_design.specs.declared.sized.SizedKind.TheVariants as kind
 use Rattle.vod_design.specs.declared.statement.Size.{Size}
+use Rattle.vod_design.specs.declared.sized.SizedKind.TheVariants as kind
+use Rattle.vod_operand.specs.declared.fault.Fault.{Fault}
+use Rattle.vod_operand.specs.Operands.{Looked, node, own, first, number_where, unless}
+use Rattle.vod_operand.specs.Found.{TreeIs, SeesAs, Sees, Saw, looked_of, join}
+use Rattle.vod_operand.specs.FaultLaws.{first_append}
+use Rattle.vod_operand.specs.FoundLaws.{tree_moved, passed, sees_of}
+use Rattle.vod_operand.specs.declared.tree.Looked as code
 use Rattle.vod_width.specs.declared.decls.Declared.{Declared}
-use Rattle.vod_width.specs.declared.decls.Declared.TheVariants as stands
-use Rattle.vod_width.specs.declared.types.Fault.{Fault}
-use Rattle.vod_width.specs.declared.tree.Looked as code
-use Rattle.vod_width.specs.declared.parts.Parts as parts
-use Rattle.vod_width.specs.Sizes.{Looked, node, own, first, number_where, unless, or_zero, have_sizes, total, input_width, sized_arguments, look_concat, look_replicate, look_call}
-use Rattle.vod_width.specs.View.{TreeIs, TreeNear, SeesAs, Sees, SeesKind, Saw, SeesParts, TreesAre, looked_of, faults_of, join, with_tree_of, concat_tree_of, replicate_tree_of, inputs_of, call_tree_of, fault_of_trees}
+use Rattle.vod_width.specs.Sizes.{or_zero, have_sizes, total, input_width, sized_arguments, look_concat, look_replicate, look_call}
+use Rattle.vod_width.specs.View.{TreeNear, SeesKind, SeesParts, TreesAre, faults_of, with_tree_of, concat_tree_of, replicate_tree_of, inputs_of, call_tree_of, fault_of_trees}
 use Rattle.vod_width.specs.Calls.{called_of, width_of}
-use Rattle.vod_width.proofs.Trees.{first_append, tree_moved}
-use Rattle.vod_width.proofs.Numbers.{passed}
-use Rattle.vod_width.proofs.Selects.{sees_of, passed_where}
+use Rattle.vod_width.proofs.Selects.{passed_where}
 use Rattle.vod_width.proofs.Ranges.{misused_sees}
+use Rattle.vod_width.specs.declared.decls.Declared.TheVariants as stands
+use Rattle.vod_width.specs.declared.parts.Parts as parts
 
 concat_tree_is : (ts : Result (List SizedExpr) Fault) (f : Option Fault) (us : List SizedExpr) → TreesAre ts f us → TreeIs (concat_tree_of ts) f (node 0 false (kind.Concat us))
 concat_tree_is (Ok ts) f us h = (h.0, ap (λ z. node 0 false (kind.Concat z)) h.1)

@@ -5,8 +5,9 @@ use Rattle.vod_tree.specs.declared.expr.ExprKind.{ExprKind}
 use Rattle.vod_tree.specs.declared.expr.ExprKind.TheOpen.{ExprKind-F}
 use Rattle.vod_tree.specs.declared.expr.ExprKind.TheFolds.{fold-ExprKind, map-ExprKind, fold-roll-ExprKind, fold_out-Expr}
 use Rattle.vod_tree.specs.declared.expr.ExprKind.TheViews.{roll-ExprKind}
+use Rattle.vod_operand.specs.Operands.{Looked, at_place}
 use Rattle.vod_width.specs.Names.{Declaration}
-use Rattle.vod_width.specs.Sizes.{Looked, look_kind, look_whole, at_place, look, inside}
+use Rattle.vod_width.specs.Sizes.{look_kind, look_whole, look, inside}
 
 -- one layer of an expression's kind
 abbrev pub Layer : Type 0

@@ -1,9 +1,6 @@
 pub mod Tables
-pub mod Trees
-pub mod Refits
 pub mod Layers
 pub mod Whole
-pub mod Numbers
 pub mod Selects
 pub mod Ranges
 pub mod Concats

@@ -3,17 +3,19 @@ use Rattle.std.proofs.Common.{◌≡◌, ℕ, ◌+◌, ◌-◌, ◌≤◌, min, 
 use Rattle.std.proofs.lemmas.Bool.Decides.{nat_tests}
 use Rattle.vod_design.specs.declared.sized.SizedExpr.{SizedExpr}
 use Rattle.vod_design.specs.declared.sized.SizedKind.TheVariants as kind
+use Rattle.vod_operand.specs.declared.fault.Fault.{Fault}
+use Rattle.vod_operand.specs.declared.fault.Fault.TheVariants.{Rule}
+use Rattle.vod_operand.specs.Operands.{Looked, first, sooner, place_of, number_where, unless}
+use Rattle.vod_operand.specs.Found.{TreeIs, Sees, looked_of, fault_of, fault_if, join, tree_unless}
+use Rattle.vod_operand.specs.FaultLaws.{first_append, join_none, some_cond}
+use Rattle.vod_operand.specs.FoundLaws.{passed, unless_is, sees_of}
+use Rattle.vod_operand.specs.declared.tree.Looked as code
 use Rattle.vod_width.specs.declared.decls.Declared.{Declared}
-use Rattle.vod_width.specs.declared.decls.Declared.TheVariants as stands
 use Rattle.vod_width.specs.declared.decls.Vector.{Vector}
-use Rattle.vod_width.specs.declared.types.Fault.{Fault}
-use Rattle.vod_width.specs.declared.types.Fault.TheVariants.{Rule}
-use Rattle.vod_width.specs.declared.tree.Looked as code
-use Rattle.vod_width.specs.Sizes.{Looked, first, sooner, misused, place_of, number_where, unless, or_zero, in_vector, selected, in_wrong_order, look_range}
-use Rattle.vod_width.specs.View.{TreeIs, Sees, looked_of, fault_of, fault_if, join, tree_unless, misused_tree, vector_of}
-use Rattle.vod_width.proofs.Trees.{first_append, join_none, some_cond}
-use Rattle.vod_width.proofs.Numbers.{passed, unless_is}
-use Rattle.vod_width.proofs.Selects.{sees_of, passed_where, low_in_vector}
+use Rattle.vod_width.specs.Sizes.{misused, or_zero, in_vector, selected, in_wrong_order, look_range}
+use Rattle.vod_width.specs.View.{misused_tree, vector_of}
+use Rattle.vod_width.proofs.Selects.{passed_where, low_in_vector}
+use Rattle.vod_width.specs.declared.decls.Declared.TheVariants as stands
 
 pub fault_is : (t : Result SizedExpr Fault) (f : Option Fault) (u : SizedExpr) → TreeIs t f u → fault_of t ≡ f
 fault_is (Ok t) f u h = sym h.0

@@ -8,17 +8,18 @@ use Rattle.vod_bits.specs.Bit.{Bit}
 use Rattle.vod_bits.specs.Value.{all_known}
 use Rattle.vod_design.specs.declared.sized.SizedExpr.{SizedExpr}
 use Rattle.vod_design.specs.Run.{eval, nothing}
+use Rattle.vod_operand.specs.declared.fault.Fault.{Fault}
+use Rattle.vod_operand.specs.declared.fault.Fault.TheVariants.{Rule, Width}
+use Rattle.vod_operand.specs.Operands.{Looked, own, place_of, sooner, first, are_none, is_sound, value}
+use Rattle.vod_operand.specs.Found.{SeesAs, IsNarrow, join}
+use Rattle.vod_operand.specs.FaultLaws.{first_append, unsound, first_nothing}
+use Rattle.vod_operand.specs.FoundLaws.{here, gone}
+use Rattle.vod_operand.specs.declared.tree.Looked as code
 use Rattle.vod_width.specs.declared.types.Constant.{Constant}
-use Rattle.vod_width.specs.declared.types.Fault.{Fault}
-use Rattle.vod_width.specs.declared.types.Fault.TheVariants.{Rule, Width}
 use Rattle.vod_width.specs.declared.types.WidthFault.{WidthFault}
-use Rattle.vod_width.specs.declared.types.WidthFault.TheVariants as refusals
-use Rattle.vod_width.specs.declared.tree.Looked as code
-use Rattle.vod_width.specs.Sizes.{Looked, own, place_of, sooner, first, are_none, is_sound, value, in_context, constant_faults}
-use Rattle.vod_width.specs.View.{SeesAs, IsNarrow, join}
+use Rattle.vod_width.specs.Sizes.{in_context, constant_faults}
 use Rattle.vod_width.specs.Refusals.{Refused, HasNoValue, refusal_of, fault_beside}
-use Rattle.vod_width.proofs.Trees.{first_append}
-use Rattle.vod_width.proofs.Numbers.{here, gone, unsound, first_nothing}
+use Rattle.vod_width.specs.declared.types.WidthFault.TheVariants as refusals
 
 pub sized_here : (c : code.Looked) (x : Looked) (e : SizedExpr) (context w own_width : ℕ) (s : Bool) → Ok e ≡ c.tree → SeesAs c x (x.sized w s) → IsNarrow x → w ≡ max context own_width → own_width ≡ min x.width 65 → s ≡ x.signed
     → (x.faults ≡ []) × (e ≡ in_context context x)

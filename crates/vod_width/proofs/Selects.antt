@@ -1,22 +1,26 @@
 -- Selects at constant indices, and at values.
-use Rattle.std.proofs.Common.{◌≡◌, ℕ, ◌-◌, ◌≤◌, ◌<◌, min, nat_lt, nat_le, Bool, true, false, ◌&&◌, cond, [], ◌++◌, Option, None, Some, Result, Ok, Err, refl, sym, ◌∙◌, ap, subst, arith}
+use Rattle.std.proofs.Common.{◌≡◌, ℕ, Bool, true, false, ◌&&◌, cond, Option, None, refl, ◌-◌, ◌≤◌, ◌<◌, min, nat_lt, nat_le, [], ◌++◌, Some, Result, Ok, Err, sym, ◌∙◌, ap, subst, arith}
 use Rattle.std.proofs.lemmas.Bool.Decides.{nat_tests}
 use Rattle.vod_design.specs.declared.sized.SizedExpr.{SizedExpr}
 use Rattle.vod_design.specs.declared.sized.SizedKind.TheVariants as kind
-use Rattle.vod_width.specs.declared.decls.Declared.TheVariants as stands
+use Rattle.vod_operand.specs.Operands.{Looked, is_sound, natural, meets, number_where, node, own, first, unless}
+use Rattle.vod_operand.specs.Found.{known_natural, TreeIs, SeesAs, part_fault_of, tree_unless}
+use Rattle.vod_operand.specs.declared.fault.Fault.{Fault}
+use Rattle.vod_operand.specs.FoundLaws.{part_fault_is, Passed, passed, unless_is}
+use Rattle.vod_operand.specs.FaultLaws.{first_nothing}
+use Rattle.vod_operand.specs.declared.tree.Looked as code
+use Rattle.vod_width.specs.View.{kept, is_found, bit_index_tree, word_index_tree}
 use Rattle.vod_width.specs.declared.decls.Vector.{Vector}
 use Rattle.vod_width.specs.declared.decls.WordArray.{WordArray}
-use Rattle.vod_width.specs.declared.types.Fault.{Fault}
-use Rattle.vod_width.specs.declared.tree.Looked as code
-use Rattle.vod_width.specs.Sizes.{Looked, node, own, first, natural, meets, number_where, unless, or_zero, in_vector, in_memory, look_index}
-use Rattle.vod_width.specs.View.{TreeIs, Sees, SeesAs, looked_of, known_natural, part_fault_of, kept, is_found, tree_unless, bit_index_tree, word_index_tree}
-use Rattle.vod_width.proofs.Numbers.{kept_is, part_fault_is, Passed, passed, unless_is, first_nothing}
+use Rattle.vod_width.specs.Sizes.{or_zero, in_vector, in_memory, look_index}
+use Rattle.vod_width.specs.declared.decls.Declared.TheVariants as stands
 
-pub sees_of : (c : code.Looked) (x : Looked) (w : ℕ) (s k : Bool) (t : Result SizedExpr Fault) → c ≡ looked_of 0 w s k t → 0 ≡ x.place → w ≡ min x.width 65 → s ≡ x.signed → k ≡ x.constant
-    → TreeIs t (first x.faults) (x.sized 0 false) → Sees c x
-sees_of c x w s k t e place width signed constant tree =
-    let P : code.Looked → Type 0 = λ d. Sees d x in
-    subst P (sym e) (record { place = place; width = width; signed = signed; constant = constant; tree = tree })
+kept_if : (test : ℕ → Bool) (n : Option ℕ) (b : Bool) → kept test (cond b n None) ≡ cond (b && meets test n) n None
+kept_if test n true = refl
+kept_if test n false = refl
+
+pub kept_is : (test : ℕ → Bool) (y : Looked) → kept test (known_natural y) ≡ number_where test y
+kept_is test y = kept_if test (natural y) (is_sound y)
 
 found_if : (b : Bool) (n : ℕ) → is_found (cond b (Some n) None) ≡ b
 found_if true n = refl

@@ -2,31 +2,25 @@
 use Rattle.std.proofs.Common.{◌≡◌, ℕ, ◌≤◌, nat_lt, Bool, true, false, cond, List, [], ◌∷◌, Option, None, Some, refl, sym, ◌∙◌, subst, arith}
 use Rattle.std.proofs.lemmas.Bool.Decides.{nat_tests}
 use Rattle.vod_bits.specs.declared.TheConstants.{WIDTH}
-use Rattle.vod_tree.specs.declared.expr.BinaryOp.{BinaryOp}
-use Rattle.vod_tree.specs.declared.expr.BinaryOp.TheVariants as by
-use Rattle.vod_tree.specs.declared.expr.UnaryOp.{UnaryOp}
-use Rattle.vod_tree.specs.declared.expr.UnaryOp.TheVariants as sign
 use Rattle.vod_tree.specs.declared.expr.Expr.{Expr}
 use Rattle.vod_tree.specs.declared.expr.ExprKind.{ExprKind}
 use Rattle.vod_tree.specs.declared.expr.ExprKind.TheOpen.{ExprKind-F, Expr-F}
 use Rattle.vod_tree.specs.declared.expr.ExprKind.TheFolds.{map-ExprKind, map-Expr, fold-roll-ExprKind, fold-roll-Expr, ind-Expr}
 use Rattle.vod_tree.specs.declared.expr.ExprKind.TheViews.{roll-ExprKind, roll-Expr}
-use Rattle.vod_design.specs.declared.sized.BinaryOp.TheVariants as binary
-use Rattle.vod_design.specs.declared.sized.ShiftOp.TheVariants as shift
-use Rattle.vod_design.specs.declared.sized.UnaryOp.TheVariants as unary
 use Rattle.vod_design.specs.declared.sized.SizedExpr.{SizedExpr}
 use Rattle.vod_design.specs.declared.sized.SizedKind.{SizedKind}
+use Rattle.vod_operand.specs.declared.fault.Fault.TheVariants.{Width}
+use Rattle.vod_operand.specs.Operands.{Looked, node, first, at_place}
+use Rattle.vod_operand.specs.Fits.{Fits}
+use Rattle.vod_operand.specs.Found.{Refits, IsNarrow}
+use Rattle.vod_operand.specs.RefitLaws.{conditional_refits, stays, unary_refits, binary_refits}
+use Rattle.vod_operand.specs.FaultLaws.{first_append, join_none}
+use Rattle.vod_operand.specs.RefitLaws as refitted
 use Rattle.vod_width.specs.declared.decls.Declared.{Declared}
-use Rattle.vod_width.specs.declared.decls.Declared.TheVariants as stands
-use Rattle.vod_width.specs.declared.types.Fault.TheVariants.{Width}
 use Rattle.vod_width.specs.Names.{Declaration, declared}
-use Rattle.vod_width.specs.Sizes.{Looked, node, first, at_place, look_name, look_index, look_range, look_call, look_unary, look_binary, look_kind, look_whole, look, inside}
-use Rattle.vod_width.specs.Fits.{Fits}
-use Rattle.vod_width.specs.View.{Refits, IsNarrow}
+use Rattle.vod_width.specs.Sizes.{look_name, look_index, look_range, look_call, look_kind, look_whole, look, inside}
 use Rattle.vod_width.proofs.Layers.{kind_look, look_at}
-use Rattle.vod_width.proofs.Refits as refitted
-use Rattle.vod_width.proofs.Refits.{like_refits, both_refits, left_refits, conditional_refits, stays}
-use Rattle.vod_width.proofs.Trees.{first_append, join_none}
+use Rattle.vod_width.specs.declared.decls.Declared.TheVariants as stands
 
 name_refits : (place : ℕ) (d : Option Declared) → Refits (look_name place d)
 name_refits place (Some (stands.Vector v)) = stays _ (refitted.fixed_Name v.name)
@@ -55,42 +49,6 @@ call_refits place (Some (stands.Vector v)) xs = stays _ (refitted.fixed_Number _
 call_refits place (Some (stands.Memory m)) xs = stays _ (refitted.fixed_Number _)
 call_refits place (Some (stands.Function f)) xs = stays _ (refitted.fixed_Call _ _)
 call_refits place None xs = stays _ (refitted.fixed_Number _)
-
-unary_refits : (op : UnaryOp) (a : Looked) → Refits a → Refits (look_unary op a)
-unary_refits sign.Minus a f = like_refits unary.Minus a f
-unary_refits sign.Not a f = like_refits unary.Not a f
-unary_refits sign.LogicalNot a f = stays _ (refitted.fixed_LogicalNot _)
-unary_refits sign.And a f = stays _ (refitted.fixed_Reduction _ _)
-unary_refits sign.Nand a f = stays _ (refitted.fixed_Reduction _ _)
-unary_refits sign.Or a f = stays _ (refitted.fixed_Reduction _ _)
-unary_refits sign.Nor a f = stays _ (refitted.fixed_Reduction _ _)
-unary_refits sign.Xor a f = stays _ (refitted.fixed_Reduction _ _)
-unary_refits sign.Xnor a f = stays _ (refitted.fixed_Reduction _ _)
-unary_refits sign.XorNot a f = stays _ (refitted.fixed_Reduction _ _)
-
-binary_refits : (op : BinaryOp) (a b : Looked) → Refits a → Refits b → Refits (look_binary op a b)
-binary_refits by.Mul a b f g = both_refits binary.Mul a b f g
-binary_refits by.Add a b f g = both_refits binary.Add a b f g
-binary_refits by.Sub a b f g = both_refits binary.Sub a b f g
-binary_refits by.And a b f g = both_refits binary.And a b f g
-binary_refits by.Xor a b f g = both_refits binary.Xor a b f g
-binary_refits by.Xnor a b f g = both_refits binary.Xnor a b f g
-binary_refits by.XorNot a b f g = both_refits binary.Xnor a b f g
-binary_refits by.Or a b f g = both_refits binary.Or a b f g
-binary_refits by.ShiftLeft a b f g = left_refits shift.Left a b f
-binary_refits by.ArithmeticLeft a b f g = left_refits shift.Left a b f
-binary_refits by.ShiftRight a b f g = left_refits shift.Right a b f
-binary_refits by.ArithmeticRight a b f g = left_refits shift.ArithmeticRight a b f
-binary_refits by.Less a b f g = stays _ (refitted.fixed_Comparison _ _ _)
-binary_refits by.LessEqual a b f g = stays _ (refitted.fixed_Comparison _ _ _)
-binary_refits by.Greater a b f g = stays _ (refitted.fixed_Comparison _ _ _)
-binary_refits by.GreaterEqual a b f g = stays _ (refitted.fixed_Comparison _ _ _)
-binary_refits by.Equal a b f g = stays _ (refitted.fixed_Comparison _ _ _)
-binary_refits by.NotEqual a b f g = stays _ (refitted.fixed_Comparison _ _ _)
-binary_refits by.CaseEqual a b f g = stays _ (refitted.fixed_Comparison _ _ _)
-binary_refits by.CaseNotEqual a b f g = stays _ (refitted.fixed_Comparison _ _ _)
-binary_refits by.LogicalAnd a b f g = stays _ (refitted.fixed_Logical _ _ _)
-binary_refits by.LogicalOr a b f g = stays _ (refitted.fixed_Logical _ _ _)
 
 abbrev KindRefits : List Declaration → ExprKind → Type 0
 KindRefits decls k = (place : ℕ) → Refits (kind_look decls k place)

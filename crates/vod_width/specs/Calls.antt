@@ -2,11 +2,12 @@
 use Rattle.std.specs.Prelude.{ℕ, min, false, List, Option, None, Some, Result}
 use Rattle.vod_design.specs.declared.sized.SizedExpr.{SizedExpr}
 use Rattle.vod_design.specs.declared.statement.Size.{Size}
+use Rattle.vod_operand.specs.declared.fault.Fault.{Fault}
+use Rattle.vod_operand.specs.Found.{looked_of}
+use Rattle.vod_operand.specs.declared.tree.Looked as code
 use Rattle.vod_width.specs.declared.decls.Declared.{Declared}
+use Rattle.vod_width.specs.View.{misused_tree, call_tree_of, fault_of_trees}
 use Rattle.vod_width.specs.declared.decls.Declared.TheVariants as stands
-use Rattle.vod_width.specs.declared.types.Fault.{Fault}
-use Rattle.vod_width.specs.declared.tree.Looked as code
-use Rattle.vod_width.specs.View.{looked_of, misused_tree, call_tree_of, fault_of_trees}
 
 abbrev pub called_of : ℕ → Option Declared → Result (List SizedExpr) Fault → code.Looked
 called_of place (Some (stands.Function f)) trees = looked_of 0 (min f.width 65) f.signed false (call_tree_of f.number trees)

@@ -1,11 +1,11 @@
 -- Why an expression is refused.
 use Rattle.std.specs.Prelude.{◌≡◌, ℕ, Bool, false, if◌then◌else◌, List, Some}
-use Rattle.vod_width.specs.declared.types.Fault.{Fault}
-use Rattle.vod_width.specs.declared.types.Fault.TheVariants as faults
+use Rattle.vod_operand.specs.declared.fault.Fault.{Fault}
+use Rattle.vod_operand.specs.Operands.{first}
+use Rattle.vod_operand.specs.Found.{sooner_of}
+use Rattle.vod_operand.specs.declared.fault.Fault.TheVariants as faults
 use Rattle.vod_width.specs.declared.types.WidthFault.{WidthFault}
 use Rattle.vod_width.specs.declared.types.WidthFault.TheVariants as refusals
-use Rattle.vod_width.specs.Sizes.{first}
-use Rattle.vod_width.specs.View.{sooner_of}
 
 -- a refusal names the first of several faults; want of memory aside
 abbrev pub Refused : WidthFault → List Fault → Type 0

@@ -1,26 +1,25 @@
 //! What an expression is by itself, from its parts up.
-ghost use Rattle.std.specs.Prelude.{IfOk, map};
+ghost use Rattle.std.specs.Prelude.{◌≡◌, Ok, IfOk, map};
 ghost use Rattle.vod_width.specs.Names.{declared};
-ghost use Rattle.vod_width.specs.Sizes.{first, look, inside, look_index, sized_arguments};
-ghost use Rattle.vod_width.specs.View.{Sees, SeesKind, SeesParts, TreesAre, faults_of};
+ghost use Rattle.vod_operand.specs.Operands.{first};
+ghost use Rattle.vod_width.specs.Sizes.{look, inside, look_index, sized_arguments};
+ghost use Rattle.vod_operand.specs.Found.{Sees};
+ghost use Rattle.vod_width.specs.View.{SeesKind, SeesParts, TreesAre, faults_of};
 
 use crate::decls::Decls;
-use crate::look::{binary, conditional, unary};
-use crate::number::literal;
 use crate::parts::{
     Parts, call, concat, fit_argument, inputs_of, no_parts, replicate, with_part, with_tree,
 };
 use crate::select::{index, name, range};
-use crate::tree::{Looked, at_place, both_ok, fit_own};
-use crate::types::Fault;
 use sqlite_items::Items;
 use std::alloc::{AllocError, Global};
 use vod_design::{Size, SizedExpr};
+use vod_operand::{Fault, Looked, at_place, binary, conditional, fit_own, literal, unary};
 use vod_tree::{Expr, ExprKind, Ident};
 
 // What an expression is.
 #[cycle(look)]
-pub fn look_expr(alloc: Global, decls: &Decls<'_>, e: &Expr) -> Result<Looked, AllocError>
+pub(crate) fn look_expr(alloc: Global, decls: &Decls<'_>, e: &Expr) -> Result<Looked, AllocError>
     ensures { IfOk result (λ c. Sees c (look decls.now e.now)) }
 {
     let x = look_kind(alloc, decls, e)?;
@@ -118,4 +117,20 @@ fn look_arguments(
         trees = with_tree(trees, x.tree)?;
     }
     Ok(trees)
+}
+
+// Both values, where there was memory for both.
+fn both_ok<A: Drop, B: Drop>(
+    a: Result<A, AllocError>,
+    b: Result<B, AllocError>,
+) -> Result<(A, B), AllocError>
+    ensures { IfOk result (λ p. (a ≡ Ok p.0) × (b ≡ Ok p.1)) }
+{
+    match a {
+        Ok(a) => match b {
+            Ok(b) => Ok((a, b)),
+            Err(e) => Err(e),
+        },
+        Err(e) => Err(e),
+    }
 }

@@ -4,15 +4,12 @@
 
 mod decls;
 mod expr;
-mod fit;
-mod look;
 mod number;
 mod parts;
 mod select;
 mod sizing;
 #[cfg(test)]
 mod tests;
-mod tree;
 pub mod types;
 
 pub use decls::{Callee, Declared, Decls, Params, Vector, WordArray};

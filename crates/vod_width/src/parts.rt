@@ -1,19 +1,23 @@
 //! The parts of concatenations, and the arguments of calls.
 ghost use Rattle.std.specs.Prelude.{◌≡◌, ◌+◌, ◌*◌, ◌&&◌, List, [], Some, None, Ok, true, if◌then◌else◌, min, max, nat_lt, slice_get, IfOk};
 ghost use Rattle.std.specs.Option.{option_copied};
-ghost use Rattle.vod_width.specs.Sizes.{Looked as Found, or_zero, look_concat, look_replicate};
+ghost use Rattle.vod_operand.specs.Operands.{Looked as Found};
+ghost use Rattle.vod_width.specs.Sizes.{or_zero, look_concat, look_replicate};
 ghost use Rattle.vod_width.specs.Calls.{called_of, width_of};
-ghost use Rattle.vod_width.specs.View.{Sees, SeesAs, SeesKind, Saw, SeesParts, with_tree_of, concat_tree_of, kept, replicate_tree_of, inputs_of, call_tree_of, fault_of_trees};
+ghost use Rattle.vod_operand.specs.Found.{Sees, SeesAs, Saw};
+ghost use Rattle.vod_width.specs.View.{SeesKind, SeesParts, with_tree_of, concat_tree_of, kept, replicate_tree_of, inputs_of, call_tree_of, fault_of_trees};
 
 use crate::decls::Declared;
-use crate::number::{is_found, natural, part_fault};
-use crate::select::{capped, looked, misused};
-use crate::tree::{Looked, WIDE, both_hold, fit, fit_own, sooner, unsized_node};
-use crate::types::Fault;
+use crate::number::is_found;
+use crate::select::{capped, misused};
 use sqlite_items::{Boxed, Items};
 use std::alloc::{AllocError, Global};
 use vod_bits::{WIDTH, Word};
 use vod_design::{Size, SizedExpr, SizedKind};
+use vod_operand::{
+    Fault, Looked, WIDE, both_hold, fit, fit_own, natural, part_fault, sooner, unplaced,
+    unsized_node,
+};
 
 // Parts, each at its own size: the sum of their widths, whether all have a width and whether all are constant, and their trees or the
 // first fault.
@@ -26,7 +30,7 @@ pub struct Parts {
 }
 
 // No parts.
-pub fn no_parts(alloc: Global) -> Parts
+pub(crate) fn no_parts(alloc: Global) -> Parts
     ensures { SeesParts result [] }
 {
     Parts {
@@ -45,7 +49,7 @@ fn wider(a: u8, b: u8) -> u8
 }
 
 // A tree behind others, or the sooner fault.
-pub fn with_tree(
+pub(crate) fn with_tree(
     trees: Result<Items<SizedExpr>, Fault>,
     tree: Result<SizedExpr, Fault>,
 ) -> Result<Result<Items<SizedExpr>, Fault>, AllocError>
@@ -67,7 +71,7 @@ pub fn with_tree(
 }
 
 // A part behind others.
-pub fn with_part(parts: Parts, x: Looked) -> Result<Parts, AllocError>
+pub(crate) fn with_part(parts: Parts, x: Looked) -> Result<Parts, AllocError>
     ensures { IfOk result (λ r. (r.width ≡ min (parts.width + x.width) 65) × (r.sized ≡ (parts.sized && nat_lt 0 x.width)) × (r.constant ≡ (parts.constant && x.constant)) × (r.trees ≡ with_tree_of parts.trees x.tree)) }
 {
     let trees = with_tree(parts.trees, x.tree)?;
@@ -87,7 +91,7 @@ fn total(parts: &Parts) -> u8
 }
 
 // The tree of a concatenation.
-pub fn concat_tree(trees: Result<Items<SizedExpr>, Fault>) -> Result<SizedExpr, Fault>
+pub(crate) fn concat_tree(trees: Result<Items<SizedExpr>, Fault>) -> Result<SizedExpr, Fault>
     ensures { result ≡ concat_tree_of trees }
 {
     match trees {
@@ -97,11 +101,11 @@ pub fn concat_tree(trees: Result<Items<SizedExpr>, Fault>) -> Result<SizedExpr, 
 }
 
 // `{ }`
-pub fn concat(parts: Parts) -> Looked
+pub(crate) fn concat(parts: Parts) -> Looked
     ensures { (ys : List Found) → SeesParts parts ys → Sees result (look_concat ys) }
 {
     let width = total(&parts);
-    looked(width, false, parts.constant, concat_tree(parts.trees))
+    unplaced(width, false, parts.constant, concat_tree(parts.trees))
 }
 
 // A count of at least 1.
@@ -161,7 +165,7 @@ fn replicate_tree(
 }
 
 // `{n{ }}`
-pub fn replicate(alloc: Global, count: Looked, parts: Parts) -> Result<Looked, AllocError>
+pub(crate) fn replicate(alloc: Global, count: Looked, parts: Parts) -> Result<Looked, AllocError>
     ensures { IfOk result (λ c. (x : Found) (ys : List Found) → Saw count x → SeesParts parts ys → SeesKind c (look_replicate x ys)) }
 {
     let count = fit_own(alloc, count)?;
@@ -173,7 +177,7 @@ pub fn replicate(alloc: Global, count: Looked, parts: Parts) -> Result<Looked, A
     let constant = parts.constant;
     let concat = concat_tree(parts.trees);
     let tree = replicate_tree(alloc, fault, tree_count(number), width, concat)?;
-    Ok(looked(times(number, width), false, constant, tree))
+    Ok(unplaced(times(number, width), false, constant, tree))
 }
 
 // A number, or 0.
@@ -184,7 +188,7 @@ fn or_zero(number: Option<Word>) -> Word
 }
 
 // The inputs of what is called.
-pub fn inputs_of<'a>(callee: Option<&'a Declared>) -> &'a [Size]
+pub(crate) fn inputs_of<'a>(callee: Option<&'a Declared>) -> &'a [Size]
     ensures { result.now ≡ inputs_of (option_copied callee.entry) }
 {
     match callee {
@@ -206,7 +210,7 @@ fn input_width(inputs: &[Size], at: usize) -> u8
 }
 
 // An argument, at the larger size of it and of its input (10.4.3).
-pub fn fit_argument(
+pub(crate) fn fit_argument(
     alloc: Global,
     inputs: &[Size],
     at: usize,
@@ -240,12 +244,16 @@ fn call_tree(number: u32, trees: Result<Items<SizedExpr>, Fault>) -> Result<Size
 }
 
 // A call.
-pub fn call(place: u32, callee: Option<&Declared>, trees: Result<Items<SizedExpr>, Fault>) -> Looked
+pub(crate) fn call(
+    place: u32,
+    callee: Option<&Declared>,
+    trees: Result<Items<SizedExpr>, Fault>,
+) -> Looked
     ensures { result ≡ called_of place (option_copied callee.entry) trees }
 {
     match callee {
         Some(Declared::Function(f)) => {
-            looked(capped(f.width), f.signed, false, call_tree(f.number, trees))
+            unplaced(capped(f.width), f.signed, false, call_tree(f.number, trees))
         }
         Some(Declared::Vector(_)) => misused(place, fault_of_trees(&trees)),
         Some(Declared::Memory(_)) => misused(place, fault_of_trees(&trees)),

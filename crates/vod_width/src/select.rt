@@ -3,42 +3,31 @@ ghost use Rattle.std.specs.Prelude.{◌≡◌, ◌-◌, min, true, false, Some, 
 ghost use Rattle.std.specs.Option.{option_copied};
 ghost use Rattle.vod_width.specs.declared.decls.Declared.TheVariants as stands;
 ghost use Rattle.vod_width.specs.Names.{declared};
-ghost use Rattle.vod_width.specs.Sizes.{Looked as Found, own, in_vector, in_memory, selected, in_wrong_order, is_constant, look_index, look_range};
-ghost use Rattle.vod_width.specs.View.{Sees, Saw, SeesAs, kept, join, fault_of, looked_of, misused_tree, named_of, vector_of, bit_index_tree, word_index_tree};
+ghost use Rattle.vod_operand.specs.Operands.{Looked as Found, own};
+ghost use Rattle.vod_width.specs.Sizes.{in_vector, in_memory, selected, in_wrong_order, is_constant, look_index, look_range};
+ghost use Rattle.vod_operand.specs.Found.{Sees, Saw, SeesAs, join, fault_of, looked_of};
+ghost use Rattle.vod_width.specs.View.{kept, misused_tree, named_of, vector_of, bit_index_tree, word_index_tree};
 
 use crate::decls::{Declared, Decls, Vector, WordArray};
-use crate::number::{above, byte, is_found, natural, part_fault, two_bytes};
-use crate::tree::{
-    Looked, WIDE, both_hold, fault_if, fault_of, fit_own, join, tree_unless, unsized_node,
-};
-use crate::types::Fault;
+use crate::number::{above, byte, is_found, two_bytes};
 use sqlite_items::Boxed;
 use std::alloc::{AllocError, Global};
 use vod_bits::{Bits, Word};
 use vod_design::{Named, SizedExpr, SizedKind};
+use vod_operand::{
+    Fault, Looked, WIDE, both_hold, fault_if, fault_of, fit_own, join, natural, part_fault,
+    tree_unless, unplaced, unsized_node,
+};
 use vod_tree::Ident;
 
 const NO_BITS: Bits = Bits { width: 1, word: 0 };
 
-// An expression of a size and sign, with no place as yet.
-pub fn looked(width: u8, signed: bool, constant: bool, tree: Result<SizedExpr, Fault>) -> Looked
-    ensures { result ≡ looked_of 0 width signed constant tree }
-{
-    Looked {
-        place: 0,
-        width,
-        signed,
-        constant,
-        tree,
-    }
-}
-
 // A name that isn't declared or is used as what it isn't, with the first fault of what stands beside it.
-pub fn misused(place: u32, beside: Option<Fault>) -> Looked
+pub(crate) fn misused(place: u32, beside: Option<Fault>) -> Looked
     ensures { result ≡ looked_of 0 0 false false (misused_tree place beside) }
 {
     let fault = join(Some(Fault::Rule(place)), beside);
-    looked(
+    unplaced(
         0,
         false,
         false,
@@ -56,18 +45,18 @@ fn is_constant(name: Named) -> bool
 }
 
 // A width, as far as it counts.
-pub fn capped(width: u8) -> u8
+pub(crate) fn capped(width: u8) -> u8
     ensures { result ≡ min width 65 }
 {
     width.min(WIDE)
 }
 
 // A name alone.
-pub fn name(place: u32, decls: &Decls, name: &Ident) -> Looked
+pub(crate) fn name(place: u32, decls: &Decls, name: &Ident) -> Looked
     ensures { result ≡ named_of place (declared decls.now name.now.name) }
 {
     match decls.get(name.name.as_slice()) {
-        Some(Declared::Vector(v)) => looked(
+        Some(Declared::Vector(v)) => unplaced(
             capped(v.width),
             v.signed,
             is_constant(v.name),
@@ -138,7 +127,7 @@ fn bit_select(alloc: Global, v: Vector, i: Looked) -> Result<Looked, AllocError>
     let low = byte(above(number, v.lsb));
     let tree = tree_unless(fault, SizedKind::Select(v.name, low, 1));
     let constant = both_hold(is_constant(v.name), i.constant);
-    Ok(looked(1, false, constant, tree))
+    Ok(unplaced(1, false, constant, tree))
 }
 
 // A bit of a vector at an index that is a value.
@@ -147,7 +136,7 @@ fn bit_index(alloc: Global, v: &Vector, i: Looked) -> Result<Looked, AllocError>
 {
     let constant = both_hold(is_constant(v.name), i.constant);
     let tree = bit_index_tree(alloc, v, i.tree)?;
-    Ok(looked(1, false, constant, tree))
+    Ok(unplaced(1, false, constant, tree))
 }
 
 // Its tree.
@@ -187,7 +176,7 @@ fn word_select(alloc: Global, m: WordArray, i: Looked) -> Result<Looked, AllocEr
     let fault = part_fault(&i, is_found(number));
     let place = two_bytes(above(number, m.low));
     let tree = tree_unless(fault, SizedKind::Word(m.number, place));
-    Ok(looked(capped(m.width), false, false, tree))
+    Ok(unplaced(capped(m.width), false, false, tree))
 }
 
 // A word of a memory at an index that is a value.
@@ -195,7 +184,7 @@ fn word_index(alloc: Global, m: &WordArray, i: Looked) -> Result<Looked, AllocEr
     ensures { IfOk result (λ c. (y : Found) → SeesAs i y (own y) → y.constant ≡ false → Sees c (look_index 0 (Some (stands.Memory m.now)) y)) }
 {
     let tree = word_index_tree(alloc, m, i.tree)?;
-    Ok(looked(capped(m.width), false, false, tree))
+    Ok(unplaced(capped(m.width), false, false, tree))
 }
 
 // Its tree.
@@ -216,7 +205,7 @@ fn word_index_tree(
 }
 
 // A bit of a vector, or a word of a memory.
-pub fn index(
+pub(crate) fn index(
     alloc: Global,
     place: u32,
     decls: &Decls,
@@ -266,7 +255,7 @@ fn in_wrong_order(msb: Option<Word>, lsb: Option<Word>) -> bool
 }
 
 // Bits of a vector.
-pub fn range(
+pub(crate) fn range(
     alloc: Global,
     place: u32,
     decls: &Decls,
@@ -318,5 +307,5 @@ fn part_select(alloc: Global, v: Vector, a: &Looked, b: &Looked) -> Result<Looke
     let count = selected(msb, lsb);
     let low = byte(above(lsb, v.lsb));
     let tree = tree_unless(fault, SizedKind::Select(v.name, low, count));
-    Ok(looked(capped(count), false, is_constant(v.name), tree))
+    Ok(unplaced(capped(count), false, is_constant(v.name), tree))
 }

@@ -2,18 +2,18 @@
 ghost use Rattle.std.specs.Prelude.{◌≡◌, ◌≤◌, ◌&&◌, List, [], true, Some, MatchResult, All, Contains};
 ghost use Rattle.vod_bits.specs.Value.{all_known};
 ghost use Rattle.vod_design.specs.Run.{eval, nothing};
-ghost use Rattle.vod_width.specs.declared.types.Fault.{Fault};
-ghost use Rattle.vod_width.specs.Sizes.{first, look, value, in_context, constant_faults, place_of};
+ghost use Rattle.vod_operand.specs.declared.fault.Fault.{Fault};
+ghost use Rattle.vod_operand.specs.Operands.{first, value, place_of};
+ghost use Rattle.vod_width.specs.Sizes.{look, in_context, constant_faults};
 ghost use Rattle.vod_width.specs.Refusals.{Refused, HasNoValue, refusal_of, fault_beside};
 
 use crate::decls::{Decls, Params};
 use crate::expr::look_expr;
-use crate::number::value;
-use crate::tree::{fit, fit_own, sooner};
-use crate::types::{Constant, Fault, WidthFault};
+use crate::types::{Constant, WidthFault};
 use std::alloc::Global;
 use vod_bits::WIDTH;
 use vod_design::SizedExpr;
+use vod_operand::{Fault, fit, fit_own, sooner, value};
 use vod_tree::Expr;
 
 /// The expression as it is evaluated in a context: at its own size or the context's, whichever is larger, by its own sign (5.4.1,

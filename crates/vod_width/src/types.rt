@@ -30,12 +30,3 @@ impl From<AllocError> for WidthFault {
         WidthFault::Memory
     }
 }
-
-/// A fault of an expression or of a part of it, at its first token.
-#[derive(Clone, Copy, Debug, PartialEq, Eq)]
-pub enum Fault {
-    /// A part that has to be constant isn't, or has a value that it may not have.
-    Rule(u32),
-    /// A part is wider than `WIDTH` bits.
-    Width(u32),
-}

@@ -6,10 +6,12 @@ use Rattle.vod_tree.specs.declared.expr.ExprKind.TheOpen.{ExprKind-F}
 use Rattle.vod_tree.specs.declared.expr.ExprKind.TheVariants.{rolls-Number, rolls-Name, rolls-Index, rolls-Range, rolls-Call, rolls-Paren, rolls-Concat, rolls-Replicate, rolls-Unary, rolls-Binary, rolls-Conditional}
 use Rattle.vod_design.specs.declared.statement.Size.{Size}
 use Rattle.vod_width.specs.Names.{declared}
-use Rattle.vod_width.specs.Sizes.{Looked, first, sized_arguments, look_index, look_range, look_call, look_concat, look_unary, look_binary, look_conditional, look}
+use Rattle.vod_operand.specs.Operands.{Looked, first}
+use Rattle.vod_width.specs.Sizes.{sized_arguments, look_index, look_range, look_call, look_concat, look}
+use Rattle.vod_operand.specs.Operators.{look_unary, look_binary, look_conditional}
 use Rattle.vod_width.specs.View.{SeesKind, SeesParts, TreesAre, faults_of, inputs_of}
 use Rattle.vod_width.specs.Calls.{called_of, width_of}
-use Rattle.vod_width.proofs.Trees.{ifok}
+use Rattle.vod_operand.specs.FoundLaws.{ifok}
 use Rattle.vod_width.proofs.Concats.{parts_more, trees_last, sized_more, call_sees}
 use Rattle.vod_width.proofs.Arms.{look_sees, arm, kind_sees, literal_sees, named_sees, saw, saw_part, seen, seen_parts, both_inner, looks_more, looks_count}
 use Rattle.vod_width.proofs.expr.+look.Goals as goal

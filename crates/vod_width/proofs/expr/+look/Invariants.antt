@@ -1,5 +1,6 @@
 use Rattle.std.proofs.Common.{map, take}
-use Rattle.vod_width.specs.Sizes.{first, look, sized_arguments}
+use Rattle.vod_operand.specs.Operands.{first}
+use Rattle.vod_width.specs.Sizes.{look, sized_arguments}
 use Rattle.vod_width.specs.View.{SeesParts, TreesAre, faults_of}
 use Rattle.vod_width.proofs.expr.+look.Given as goal
 

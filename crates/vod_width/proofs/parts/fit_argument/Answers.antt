@@ -1,6 +1,6 @@
 use Rattle.std.proofs.Common.{◌∙◌, max, refl, ap, slice_get}
 use Rattle.vod_width.specs.Calls.{width_of}
-use Rattle.vod_width.proofs.Trees.{ifok}
+use Rattle.vod_operand.specs.FoundLaws.{ifok}
 use Rattle.vod_width.proofs.Concats.{argument_sees}
 use Rattle.vod_width.proofs.parts.fit_argument.Goals as goal
 

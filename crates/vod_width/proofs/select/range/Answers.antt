@@ -1,8 +1,10 @@
 use Rattle.std.proofs.Common.{◌≡◌, ◌++◌, ◌∙◌, Some, None, sym, ap, subst}
 use Rattle.vod_width.specs.Names.{declared}
-use Rattle.vod_width.specs.Sizes.{Looked, own, first}
-use Rattle.vod_width.specs.View.{Sees, join, fault_of, vector_of}
-use Rattle.vod_width.proofs.Trees.{ifok, first_append}
+use Rattle.vod_operand.specs.Operands.{Looked, own, first}
+use Rattle.vod_operand.specs.Found.{Sees, join, fault_of}
+use Rattle.vod_width.specs.View.{vector_of}
+use Rattle.vod_operand.specs.FoundLaws.{ifok}
+use Rattle.vod_operand.specs.FaultLaws.{first_append}
 use Rattle.vod_width.proofs.Ranges.{fault_is, misused_sees, range_of_vector, range_of_other}
 use Rattle.vod_width.proofs.select.range.Goals as goal
 

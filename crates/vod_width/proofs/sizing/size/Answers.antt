@@ -1,6 +1,6 @@
 use Rattle.std.proofs.Common.{◌∙◌, sym}
 use Rattle.vod_width.specs.Sizes.{look}
-use Rattle.vod_width.proofs.Numbers.{gone}
+use Rattle.vod_operand.specs.FoundLaws.{gone}
 use Rattle.vod_width.proofs.Arms.{saw}
 use Rattle.vod_width.proofs.Refuse.{sized_here, refused}
 use Rattle.vod_width.proofs.sizing.size.Goals as goal

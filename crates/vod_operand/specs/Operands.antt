@@ -1,0 +1,85 @@
+-- What an expression is by itself, and how it stands at a size and sign (IEEE 1364-2005, 5.4 and 5.5); numbers among them, and faults.
+use Rattle.std.specs.Prelude.{ℕ, ◌+◌, ◌*◌, nat_lt, Bool, true, false, not, ◌&&◌, if◌then◌else◌, List, [], ◌∷◌, ◌++◌, Option, None, Some}
+use Rattle.vod_bits.specs.Bit.{Bit, is_1}
+use Rattle.vod_bits.specs.Value.{bits_of, number_of, upper_bit, all_known}
+use Rattle.vod_bits.specs.declared.TheConstants.{WIDTH}
+use Rattle.vod_tree.specs.declared.ident.Number.{Number}
+use Rattle.vod_design.specs.declared.sized.SizedExpr.{SizedExpr}
+use Rattle.vod_design.specs.declared.sized.SizedKind.{SizedKind}
+use Rattle.vod_design.specs.Values.{bounded, at_size}
+use Rattle.vod_design.specs.Run.{eval, nothing}
+use Rattle.vod_design.specs.declared.sized.SizedKind.TheVariants as kind
+use Rattle.vod_operand.specs.declared.fault.Fault.{Fault}
+use Rattle.vod_operand.specs.declared.fault.Fault.TheVariants.{Rule, Width}
+
+-- what an expression is by itself: the place of its first token, its size and sign, whether it is constant, the faults inside it, and
+-- how it stands where it is evaluated at a size and sign
+pub record Looked : Type 0 where
+  pub place : ℕ
+  pub width : ℕ
+  pub signed : Bool
+  pub constant : Bool
+  pub faults : List Fault
+  pub sized : ℕ → Bool → SizedExpr
+
+-- an expression of a kind at a size and sign
+abbrev pub node : ℕ → Bool → SizedKind → SizedExpr
+node width signed k = record { width = width; signed = signed; kind = k }
+
+-- an expression at its own size and sign, as where it is self-determined (5.4.1)
+abbrev pub own : Looked → SizedExpr
+own x = x.sized x.width x.signed
+
+-- whether nothing in it is at fault
+abbrev pub are_none : List Fault → Bool
+are_none [] = true
+are_none (f ∷ fs) = false
+
+abbrev pub is_sound : Looked → Bool
+is_sound x = are_none x.faults
+
+-- a looked-at expression, with no place as yet
+abbrev pub looked : ℕ → Bool → Bool → List Fault → (ℕ → Bool → SizedExpr) → Looked
+looked width signed constant faults sized = record { place = 0; width = width; signed = signed; constant = constant; faults = faults; sized = sized }
+
+-- the value of a constant expression, by itself
+abbrev pub value : Looked → List Bit
+value x = eval [] nothing [] (own x)
+
+-- the number that it stands for, where it is constant and not negative
+abbrev pub natural : Looked → Option ℕ
+natural x = if x.constant && (all_known (value x) && not (x.signed && is_1 (upper_bit (value x)))) then Some (number_of (value x)) else None
+
+abbrev pub meets : (ℕ → Bool) → Option ℕ → Bool
+meets test None = false
+meets test (Some n) = test n
+
+-- the number where an expression without faults is one for which a test holds
+abbrev pub number_where : (ℕ → Bool) → Looked → Option ℕ
+number_where test x = if is_sound x && meets test (natural x) then natural x else None
+
+-- an expression that has to be such a number, and isn't, is at fault there; one with faults inside brings no other
+abbrev pub unless : (ℕ → Bool) → Looked → List Fault
+unless test x = if is_sound x && not (meets test (natural x)) then Rule x.place ∷ [] else []
+
+-- a number has its own size and sign (3.5.1)
+abbrev pub look_number : Number → Looked
+look_number n = looked (bounded n.size) n.signed true [] (λ w s. node w s (kind.Number (at_size n.size false (bits_of WIDTH n.value))))
+
+-- an expression wider than WIDTH is at fault at its first token
+abbrev pub at_place : ℕ → Looked → Looked
+at_place place x = record x { place = place; faults = x.faults ++ (if nat_lt WIDTH x.width then Width place ∷ [] else []) }
+
+-- of two faults the one at the lesser place; at one place, that a rule fails stands before a width
+abbrev pub place_of : Fault → ℕ
+place_of (Rule place) = 2 * place
+place_of (Width place) = 2 * place + 1
+
+abbrev pub sooner : Fault → Option Fault → Option Fault
+sooner f None = Some f
+sooner f (Some g) = if nat_lt (place_of g) (place_of f) then Some g else Some f
+
+-- the first of several faults
+abbrev pub first : List Fault → Option Fault
+first [] = None
+first (f ∷ fs) = sooner f (first fs)
