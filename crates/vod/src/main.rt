@@ -7,8 +7,6 @@ mod phase;
 mod record;
 mod status;
 mod stops;
-#[cfg(test)]
-mod tests;
 mod top;
 mod window;
 

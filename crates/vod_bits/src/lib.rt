@@ -249,6 +249,3 @@ impl Bits {
         }
     }
 }
-
-#[cfg(test)]
-mod tests;

@@ -9,6 +9,3 @@ mod system;
 pub use deck::Deck;
 pub use in_memory::{MemDeck, Outcome, Room};
 pub use system::FileDeck;
-
-#[cfg(test)]
-mod tests;

@@ -8,8 +8,6 @@ mod laws;
 mod lists;
 mod parameters;
 mod ranges;
-#[cfg(test)]
-mod tests;
 
 pub use functions::{function_declarations, function_inputs};
 pub use headers::ports;

@@ -3,8 +3,6 @@
 
 mod sized;
 mod statement;
-#[cfg(test)]
-mod tests;
 pub mod thin;
 
 pub use sized::{

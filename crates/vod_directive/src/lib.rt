@@ -4,8 +4,6 @@
 mod laws;
 mod meaning;
 mod reading;
-#[cfg(test)]
-mod tests;
 
 pub use laws::directives_are_exact;
 pub use meaning::directive_of;

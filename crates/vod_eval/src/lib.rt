@@ -6,8 +6,6 @@ mod bits;
 mod eval;
 mod ops;
 mod room;
-#[cfg(test)]
-mod tests;
 
 pub use eval::value_of;
 pub use room::{call_rooms, expr_room, statement_room};

@@ -2,8 +2,6 @@
 #![tactic(auto)]
 
 mod read;
-#[cfg(test)]
-mod tests;
 
 ghost use Rattle.std.specs.Prelude.{◌≡◌, ◌≤◌, ◌<◌, ◌∷◌, ◌++◌, List, ℕ, length, drop, All, Ok, Err, MatchResult};
 ghost use Rattle.vod_token.specs.Span.{IsTokenOf};

@@ -448,6 +448,3 @@ impl Four {
         }
     }
 }
-
-#[cfg(test)]
-mod tests;

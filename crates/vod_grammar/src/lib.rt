@@ -4,8 +4,6 @@
 mod laws;
 mod phrase;
 mod reader;
-#[cfg(test)]
-mod tests;
 mod word;
 
 pub use laws::phrases_are_exact;

@@ -4,8 +4,6 @@
 mod laws;
 mod loops;
 mod statements;
-#[cfg(test)]
-mod tests;
 
 pub use laws::initial_statements_are_exact;
 pub use statements::initial_statement;

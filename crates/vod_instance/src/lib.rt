@@ -4,8 +4,6 @@
 mod gates;
 mod hierarchy;
 mod laws;
-#[cfg(test)]
-mod tests;
 
 pub use gates::{gate, is_gate};
 pub use hierarchy::instances;

@@ -18,6 +18,3 @@ pub struct Failed;
 /// The refusal for want of memory.
 #[derive(Clone, Copy, Debug, PartialEq, Eq)]
 pub struct Memory;
-
-#[cfg(test)]
-mod tests;

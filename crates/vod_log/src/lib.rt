@@ -11,6 +11,3 @@ pub use header::{Counts, Header, read_header};
 pub use log::{Log, LogFault, Record};
 pub use payloads::{Bytes, payload};
 pub use tail::{AppendFault, Tail};
-
-#[cfg(test)]
-mod tests;

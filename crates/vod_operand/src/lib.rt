@@ -6,8 +6,6 @@ mod fault;
 mod number;
 mod operators;
 mod refit;
-#[cfg(test)]
-mod tests;
 mod tree;
 
 pub use fault::{Fault, fault_if, join, sooner};

@@ -7,8 +7,6 @@ mod laws;
 mod modules;
 mod processes;
 mod source;
-#[cfg(test)]
-mod tests;
 
 pub use laws::sources_are_exact;
 pub use source::read_source;

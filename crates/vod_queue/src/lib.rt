@@ -15,8 +15,6 @@ mod event;
 mod fanout;
 mod flags;
 mod orders;
-#[cfg(test)]
-mod tests;
 mod updates;
 mod waiting;
 

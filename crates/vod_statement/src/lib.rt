@@ -6,8 +6,6 @@ mod label;
 mod laws;
 mod sides;
 mod statements;
-#[cfg(test)]
-mod tests;
 
 pub use context::Context;
 pub use label::block_name;

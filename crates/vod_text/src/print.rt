@@ -23,19 +23,3 @@ pub fn put_decimal(n: u64, out: &mut [u8; 20]) -> usize
     front.copy_from_slice(text);
     text.len()
 }
-
-#[cfg(test)]
-mod tests {
-    use super::put_decimal;
-
-    #[test]
-    fn numbers_are_printed(rt: HostRuntime) {
-        let mut out = [b'.'; 20];
-        assert_eq!(rt; put_decimal(0, &mut out), 1);
-        assert_eq!(rt; &out[..2], b"0.".as_slice());
-        assert_eq!(rt; put_decimal(1_048_576, &mut out), 7);
-        assert_eq!(rt; &out[..8], b"1048576.".as_slice());
-        assert_eq!(rt; put_decimal(u64::MAX, &mut out), 20);
-        assert_eq!(rt; &out[..], b"18446744073709551615".as_slice());
-    }
-}

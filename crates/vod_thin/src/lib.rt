@@ -7,8 +7,6 @@ mod machine;
 mod names;
 mod netlist;
 mod read;
-#[cfg(test)]
-mod tests;
 mod text;
 
 pub use fault::ThinFault;

@@ -4,8 +4,6 @@
 mod frame;
 mod law;
 mod read;
-#[cfg(test)]
-mod tests;
 
 pub use frame::Frame;
 pub use law::{batches_are_short, frames_are_records, inputs_fit, one_batch, one_head, one_log};

@@ -5,8 +5,6 @@ mod batch;
 mod held;
 mod law;
 mod source;
-#[cfg(test)]
-mod tests;
 mod vectors;
 
 pub use held::{RangeFault, first_image, range};

@@ -7,8 +7,6 @@ mod inputs;
 mod line;
 mod pieces;
 mod script;
-#[cfg(test)]
-mod tests;
 
 pub use history::{AddFault, History};
 pub use script::{one_reading, one_refusal, read_script};

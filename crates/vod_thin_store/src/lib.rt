@@ -5,8 +5,6 @@ mod ack;
 mod append;
 mod law;
 mod store;
-#[cfg(test)]
-mod tests;
 
 pub use law::said_is_held;
 pub use store::record;

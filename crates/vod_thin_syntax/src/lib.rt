@@ -9,8 +9,6 @@ mod read;
 mod reader;
 mod scan;
 mod syntax;
-#[cfg(test)]
-mod tests;
 mod tokens;
 mod words;
 

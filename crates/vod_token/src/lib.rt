@@ -12,8 +12,6 @@ mod nesting;
 mod number;
 mod reserved;
 mod symbol;
-#[cfg(test)]
-mod tests;
 mod value;
 
 pub use bytes::is_white;

@@ -10,8 +10,6 @@ mod ident;
 mod instance;
 mod module;
 mod statement;
-#[cfg(test)]
-mod tests;
 
 pub use declaration::{
     DeclaredPort, NetDeclaration, NetPort, ParameterDeclaration, ParameterPort, ParameterType,

@@ -21,6 +21,3 @@ impl From<AllocError> for Memory {
         Memory
     }
 }
-
-#[cfg(test)]
-mod tests;

@@ -8,8 +8,6 @@ mod number;
 mod parts;
 mod select;
 mod sizing;
-#[cfg(test)]
-mod tests;
 pub mod types;
 
 pub use decls::{Callee, Declared, Decls, Params, Vector, WordArray};
