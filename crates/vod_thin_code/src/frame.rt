@@ -154,7 +154,7 @@ fn write_batch(
 }
 
 /// A record as it is appended to a log, seen as its bytes.
-#[derive(Debug, Drop)]
+#[derive(Drop)]
 pub struct Frame {
     bytes: Vec<u8>,
 }

@@ -27,6 +27,8 @@ pub(crate) fn add_batch(
     ensures damaged { IfErr result (λ fault. OnDamaged fault (IsDamagedBehind design.now past.old.vectors (record { entry = entry.now; payload = payload.now }))) }
     ensures decked { IsErrOf result DeckFault → ⊥ }
 {
+    // A law, which does nothing when it runs: a payload is that of one batch at most, so that what
+    // isn't lawful here is lawful in no other reading.
     one_batch();
     let before = past.vectors().len();
     if !add_payload(alloc, design, payload, past)? {

@@ -4,6 +4,7 @@ ghost use Rattle.vod_log.specs.Format.{counts_of, same_kind};
 ghost use Rattle.vod_log.specs.declared.header.Kind.TheVariants.{Image};
 ghost use Rattle.vod_thin_replay.specs.Range.{range_of, first_image};
 
+use std::fmt;
 use vod_log::{Kind, Log};
 
 /// Why a window isn't in a log. Times are ticks.
@@ -19,6 +20,24 @@ pub enum RangeFault {
     TooEarly(u64),
     /// It ends behind this time, the last that is held.
     PastEnd(u64),
+}
+
+impl fmt::Display for RangeFault {
+    fn fmt<W: fmt::Write>(&self, f: &mut fmt::Formatter<W>) -> fmt::Result {
+        match self {
+            RangeFault::Backwards => write!(f, "the window ends before it begins"),
+            RangeFault::NothingHeld => write!(f, "the log holds no vector"),
+            RangeFault::NeverKnown => write!(f, "no window is known: some input never has a value"),
+            RangeFault::TooEarly(time) => write!(
+                f,
+                "the window begins before {time}, since when every input has a value"
+            ),
+            RangeFault::PastEnd(time) => write!(
+                f,
+                "the window ends past {time}, the last time that is held"
+            ),
+        }
+    }
 }
 
 /// Whether a window from one time to another is in what a log holds; the first refusal that stands.

@@ -12,5 +12,6 @@ pub fn sound_is_undamaged()
     ensures head { (d : Netlist) (source : List ℕ) (interval : ℕ) (vs : List Vector) (bytes : List ℕ) (at : ℕ) → IsSound d source interval vs bytes → IsHeadDamagedAt bytes at → ⊥ }
     ensures batches { (d : Netlist) → IsAccepted d → (source : List ℕ) (interval : ℕ) (vs : List Vector) (bytes : List ℕ) (at : ℕ) → IsSound d source interval vs bytes → IsDamagedAt d bytes at → ⊥ }
 {
+    // A law: a payload is that of one batch at most, so that the one that a sound log has there is read.
     one_batch();
 }

@@ -11,6 +11,7 @@ pub use held::{RangeFault, first_image, range};
 pub use law::sound_is_undamaged;
 pub use source::read_source;
 use std::alloc::AllocError;
+use std::fmt;
 pub use vectors::read_vectors;
 
 /// Why what a log holds isn't read.
@@ -22,6 +23,19 @@ pub enum ReplayFault {
     Damaged(u64),
     /// There was no memory.
     Memory,
+}
+
+impl fmt::Display for ReplayFault {
+    fn fmt<W: fmt::Write>(&self, f: &mut fmt::Formatter<W>) -> fmt::Result {
+        match self {
+            ReplayFault::Deck => write!(f, "the file of the log failed"),
+            ReplayFault::Damaged(at) => write!(
+                f,
+                "the record behind byte {at} of the log is damaged"
+            ),
+            ReplayFault::Memory => write!(f, "out of memory"),
+        }
+    }
 }
 
 impl From<AllocError> for ReplayFault {

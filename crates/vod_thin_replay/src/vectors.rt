@@ -38,7 +38,10 @@ pub fn read_vectors<'d, L: Deck>(
     ensures later { (L.view deck.old).faults ≤ (L.view deck.new).faults }
     ensures caused { IsErrOf result DeckFault → Rose (L.view deck.old).faults (L.view deck.new).faults }
 {
+    // A law, which does nothing when it runs: a payload is that of one batch at most, so that the
+    // vectors of each log that is held there begin with these.
     one_batch();
+    // The design is accepted, which its inputs tell; so their numbers have four bytes.
     let _ = design.inputs();
     let mut past = History::new(alloc, design)?;
     let batches = behind_first(log.records());

@@ -7,6 +7,7 @@ mod law;
 mod store;
 
 pub use law::said_is_held;
+use std::fmt;
 pub use store::record;
 use vod_io::Failed;
 
@@ -19,6 +20,19 @@ pub enum StoreFault {
     NotEmpty,
     /// There was no memory.
     Memory,
+}
+
+impl fmt::Display for StoreFault {
+    fn fmt<W: fmt::Write>(&self, f: &mut fmt::Formatter<W>) -> fmt::Result {
+        match self {
+            StoreFault::Deck => write!(
+                f,
+                "the file of the log failed: it holds what was acknowledged"
+            ),
+            StoreFault::NotEmpty => write!(f, "the log holds records: record into an empty file"),
+            StoreFault::Memory => write!(f, "out of memory"),
+        }
+    }
 }
 
 impl From<Failed> for StoreFault {

@@ -50,6 +50,7 @@ pub fn record<L: Deck>(
     ensures later { (L.view deck.old).faults ≤ (L.view deck.new).faults }
     ensures caused { IsErrOf result DeckFault → Rose (L.view deck.old).faults (L.view deck.new).faults }
 {
+    // A law, which does nothing when it runs: the bytes of a head are a frame with its header.
     frames_are_records();
     let mut tail = tail;
     let mut frame = Frame::with_room(alloc, frame_len(design, source))?;
@@ -132,6 +133,8 @@ fn append_batches<L: Deck>(
     ensures later { (L.view deck.old).faults ≤ (L.view deck.new).faults }
     ensures caused { IsErrOf result DeckFault → Rose (L.view deck.old).faults (L.view deck.new).faults }
 {
+    // Laws, which do nothing when they run: the bytes of a batch are a frame with its header, and
+    // those of 64 vectors are no more than a header may say.
     frames_are_records();
     batches_are_short();
     let mut tail = tail;

@@ -17,5 +17,6 @@ pub fn window_of_front()
         IsAccepted r.design → IsLawful r.design (r.vectors ++ more) → IsOver more to → from ≤ to →
         IsBegun r (window_of r from to) before after → IsBegun (behind r more) (window_of (behind r more) from to) before after }
 {
+    // A law of the queue: a front of a run goes on, so that each list of vectors has a run.
     orders_end();
 }

@@ -31,7 +31,8 @@ pub fn started(alloc: Global, design: &Design) -> Result<Queue<'_>, Memory>
 {
     let mut queue = Queue::start(alloc, design)?;
     settle(&mut queue);
-    // Every other order would have ended here too: a law, which does nothing when it runs, as the next.
+    // Laws, which do nothing when they run: every other order of events would have ended here too,
+    // and the inputs have what the vectors so far, none, gave them.
     orders_agree();
     inputs_take_moves();
     Ok(queue)
@@ -47,7 +48,8 @@ pub fn run_slot(queue: &mut Queue<'_>, vector: &Vector)
 {
     queue.open_slot(vector.moves.as_slice());
     settle(queue);
-    // Every other order would have ended here too: a law, which does nothing when it runs, as the next.
+    // Laws, which do nothing when they run: every other order of events would have ended here too,
+    // and the inputs have what this vector gave them, so that the next one is unmixed by them.
     orders_agree();
     inputs_take_moves();
 }

@@ -13,13 +13,14 @@ ghost use Rattle.vod_thin_window.specs.Progress.{Awaits, IsOver, Skips};
 
 use crate::run::{run_slot, started};
 use std::alloc::Global;
+use std::fmt;
 use vod_design::thin::{Design, Vector};
 use vod_io::{Failed, Sink};
 use vod_queue::{Queue, inputs_take_moves, orders_agree, orders_end};
 use vod_vcd::{Writer, window_is_cut};
 
 /// A window of time, from one time to another, both in it.
-#[derive(Clone, Copy, Debug, PartialEq, Eq)]
+#[derive(Clone, Copy)]
 pub struct Window {
     pub from: u64,
     pub to: u64,
@@ -32,6 +33,15 @@ pub enum WindowFault {
     Write,
     /// There was no memory.
     Memory,
+}
+
+impl fmt::Display for WindowFault {
+    fn fmt<W: fmt::Write>(&self, f: &mut fmt::Formatter<W>) -> fmt::Result {
+        match self {
+            WindowFault::Write => write!(f, "the window could not be written"),
+            WindowFault::Memory => write!(f, "out of memory"),
+        }
+    }
 }
 
 impl From<Failed> for WindowFault {
@@ -158,7 +168,8 @@ pub fn write_window<K: Sink>(
 {
     let mut queue = started(alloc, design)?;
     let mut writer = Writer::new(alloc, design, source)?;
-    // Laws of the queue and of the dump, which do nothing when they run.
+    // Laws, which do nothing when they run: all orders of events have one end, each order ends, the
+    // inputs have what the vectors so far gave them, and the four calls write the full dump's cut.
     orders_agree();
     orders_end();
     inputs_take_moves();
@@ -198,7 +209,7 @@ pub fn write_dump<K: Sink>(
         from: 0,
         to: last_time(vectors),
     };
-    // A law of the dump, which does nothing when it runs.
+    // A law, which does nothing when it runs: the cut from 0 to the last time is the full dump.
     window_is_cut();
     let written = write_window(alloc, source, design, vectors, whole, out);
     written
