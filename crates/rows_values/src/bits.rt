@@ -1,7 +1,7 @@
 //! Rows on known values: `bits`, an operator, what it needs besides, and the values that it is tried on, each by itself.
 ghost use Rattle.std.specs.Prelude.{◌≡◌, length};
 
-use crate::digits::{joined, named, print, truth, value};
+use rows_digits::{joined, named, print, truth, value};
 use std::io;
 use vod_bits::{Bits, WIDTH, Word};
 use vod_four::Four;

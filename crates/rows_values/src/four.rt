@@ -1,7 +1,7 @@
 //! Rows on values of four states: `four`, an operator, what it needs besides, and the values that it is tried on, each by itself.
 ghost use Rattle.std.specs.Prelude.{◌≡◌, length};
 
-use crate::digits::{joined, named, print, truth, value, width};
+use rows_digits::{joined, named, print, truth, value, width};
 use std::io;
 use vod_bits::WIDTH;
 use vod_four::Four;

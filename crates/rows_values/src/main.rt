@@ -3,13 +3,12 @@
 #![tactic(auto)]
 
 mod bits;
-mod digits;
 mod four;
 mod text;
 mod thin;
 
+use rows_digits::named;
 use std::io;
-use std::rt::Runtime;
 
 /// What the first word of a row names.
 #[derive(Clone, Copy)]
@@ -36,7 +35,7 @@ fn answer(rt: &impl Print, words: &[&str]) -> io::Result<()> {
     let [first, rest @ ..] = words else {
         return Ok(());
     };
-    match digits::named(first, &LAYERS) {
+    match named(first, &LAYERS) {
         Some(Layer::Text(call)) => text::answer(rt, call, rest),
         Some(Layer::Bits) => bits::answer(rt, rest),
         Some(Layer::Four) => four::answer(rt, rest),

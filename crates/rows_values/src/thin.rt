@@ -1,5 +1,5 @@
 //! Rows on single bits of the thin design: `thin`, an operator, its left operand, and the right ones that it is tried on.
-use crate::digits::named;
+use rows_digits::named;
 use std::io;
 use vod_design::thin::Bit;
 

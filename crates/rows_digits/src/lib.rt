@@ -1,4 +1,6 @@
-//! Values and their digits.
+//! Values and words as the rows of programs write them.
+#![tactic(auto)]
+
 ghost use Rattle.std.specs.Prelude.{◌≡◌, ◌≤◌, length};
 
 use std::{fmt, io};
