@@ -4,7 +4,7 @@ ghost use Rattle.vod_operand.specs.Operands.{place_of};
 ghost use Rattle.vod_operand.specs.Found.{sooner_of, join, fault_if};
 
 /// A fault of an expression or of a part of it, at its first token.
-#[derive(Clone, Copy, Debug, PartialEq, Eq)]
+#[derive(Clone, Copy, PartialEq, Eq)]
 pub enum Fault {
     /// A part that has to be constant isn't, or has a value that it may not have.
     Rule(u32),

@@ -3,14 +3,14 @@ use std::alloc::AllocError;
 use vod_bits::Bits;
 
 /// The value of a constant expression, and whether it is signed.
-#[derive(Clone, Copy, Debug)]
+#[derive(Clone, Copy)]
 pub struct Constant {
     pub value: Bits,
     pub signed: bool,
 }
 
 /// Why an expression is refused: by the first token of the least part that is at fault, and at one place by a rule before a width.
-#[derive(Clone, Copy, Debug, PartialEq, Eq)]
+#[derive(Clone, Copy, PartialEq, Eq)]
 pub enum WidthFault {
     /// A part that has to be constant isn't, or has a value that it may not have.
     Rule { place: u32 },
