@@ -11,6 +11,9 @@ pub use reading::{FillFault, Filled, Source, fill};
 pub use system::{FileSource, PrintErr, StdSink, StdSource};
 pub use writing::{Sink, put_all};
 
+/// The greatest time that a vector may have, in ticks.
+pub const MAX_TIME: u64 = 9_223_372_036_854_775_807;
+
 /// The refusal of a source or a sink, which counted a fault.
 #[derive(Clone, Copy, Debug, PartialEq, Eq)]
 pub struct Failed;

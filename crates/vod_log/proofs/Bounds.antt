@@ -3,7 +3,8 @@ use Rattle.std.proofs.Common.{◌≡◌, ℕ, ◌+◌, ◌*◌, ◌^◌, ◌≤�
 use Rattle.std.specs.Prelude.{Bool, true, false, ◌==◌, nat_le, nat_lt, Option, None, Some, if◌then◌else◌}
 use Rattle.std.proofs.lemmas.Bool.{or_cases}
 use Rattle.std.proofs.lemmas.Bool.Decides.{nat_tests}
-use Rattle.vod_log.specs.Format.{follows, is_head, is_batch, is_image}
+use Rattle.vod_log.specs.declared.header.Kind.TheVariants.{Image}
+use Rattle.vod_log.specs.Format.{kind_number, same_kind, follows, is_head, is_batch, is_image}
 use Rattle.vod_log.specs.Tail.{Continues, IsNear, records_before, frame_header}
 use Rattle.vod_log.specs.declared.header.Header.{Header}
 use Rattle.vod_log.proofs.Readings.{both-true}
@@ -18,7 +19,7 @@ eq-true : (a b : ℕ) → (a == b) ≡ true → a ≡ b
 eq-true a b e = grind (arith, nat_tests)
 
 record HeadFacts (h : Header) : Type 0 where
-  kind : h.kind ≡ 1
+  kind : kind_number h.kind ≡ 1
   after : h.after ≡ 0
   short : h.length ≤ 1048584
 
@@ -30,10 +31,10 @@ head-facts h e =
     let lasts = both-true _ _ known.0 in
     let afters = both-true _ _ lasts.0 in
     let befores = both-true _ _ afters.0 in
-    record { kind = eq-true h.kind 1 befores.0; after = eq-true h.after 0 afters.1; short = le-true h.length 1048584 last.1 }
+    record { kind = eq-true (kind_number h.kind) 1 befores.0; after = eq-true h.after 0 afters.1; short = le-true h.length 1048584 last.1 }
 
 record BatchFacts (p h : Header) : Type 0 where
-  kind : h.kind ≡ 2
+  kind : kind_number h.kind ≡ 2
   more : p.after < h.after
   few : h.after ≤ 4294967295
   short : h.length ≤ 787200
@@ -48,11 +49,11 @@ batch-facts p h e =
     let a3 = both-true _ _ a4.0 in
     let a2 = both-true _ _ a3.0 in
     let a1 = both-true _ _ a2.0 in
-    record { kind = eq-true h.kind 2 a1.0; more = lt-true p.after h.after a2.1; few = le-true h.after 4294967295 a4.1; short = le-true h.length 787200 a8.1 }
+    record { kind = eq-true (kind_number h.kind) 2 a1.0; more = lt-true p.after h.after a2.1; few = le-true h.after 4294967295 a4.1; short = le-true h.length 787200 a8.1 }
 
 record ImageFacts (p h : Header) : Type 0 where
-  kind : h.kind ≡ 3
-  behind : p.kind ≡ 2
+  kind : kind_number h.kind ≡ 3
+  behind : kind_number p.kind ≡ 2
   same : h.after ≡ p.after
   short : h.length ≤ 1048576
 
@@ -65,7 +66,7 @@ image-facts p h e =
     let a3 = both-true _ _ a4.0 in
     let a2 = both-true _ _ a3.0 in
     let a1 = both-true _ _ a2.0 in
-    record { kind = eq-true h.kind 3 a1.0; behind = eq-true p.kind 2 a1.1; same = eq-true h.after p.after a3.1; short = le-true h.length 1048576 a7.1 }
+    record { kind = eq-true (kind_number h.kind) 3 a1.0; behind = eq-true (kind_number p.kind) 2 a1.1; same = eq-true h.after p.after a3.1; short = le-true h.length 1048576 a7.1 }
 
 -- no payload is longer than the greatest head's
 pub payload-short : (last : Option Header) (h : Header) → follows last h ≡ true → h.length ≤ 1048584
@@ -76,17 +77,17 @@ payload-short (Some p) h e =
       | inr i ↦ let f = image-facts p h i in omega (arith, f.short)
     ]
 
-kind-weight : (h : Header) (t : Bool) → (h.kind == 3) ≡ t → (2 * h.after + (if h.kind == 3 then 2 else 1)) ≡ 2 * h.after + (if t then 2 else 1)
+kind-weight : (h : Header) (t : Bool) → same_kind h.kind Image ≡ t → (2 * h.after + (if same_kind h.kind Image then 2 else 1)) ≡ 2 * h.after + (if t then 2 else 1)
 kind-weight h t e = ap (λ x. 2 * h.after + (if x then 2 else 1)) e
 
 most-weight : (p : Header) → records_before (Some p) ≤ 2 * p.after + 2
-most-weight p = by_kind (p.kind == 3) refl
+most-weight p = by_kind (same_kind p.kind Image) refl
   where
-    by_kind : (t : Bool) → (p.kind == 3) ≡ t → records_before (Some p) ≤ 2 * p.after + 2
+    by_kind : (t : Bool) → (same_kind p.kind Image) ≡ t → records_before (Some p) ≤ 2 * p.after + 2
     by_kind true e = omega (arith, kind-weight p true e)
     by_kind false e = omega (arith, kind-weight p false e)
 
-weight-of : (h : Header) (k : ℕ) (t : Bool) → h.kind ≡ k → (k == 3) ≡ t → records_before (Some h) ≡ 2 * h.after + (if t then 2 else 1)
+weight-of : (h : Header) (k : ℕ) (t : Bool) → kind_number h.kind ≡ k → (k == 3) ≡ t → records_before (Some h) ≡ 2 * h.after + (if t then 2 else 1)
 weight-of h k t e same = kind-weight h t (ap (λ x. x == 3) e ∙ same)
 
 -- one record more

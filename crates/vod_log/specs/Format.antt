@@ -1,6 +1,9 @@
 -- The bytes of a log: records behind gates, and what of them is committed.
-use Rattle.std.specs.Prelude.{ℕ, zero, suc, ◌+◌, ◌-◌, ◌^◌, ◌==◌, ◌&&◌, ◌||◌, nat_lt, nat_le, Bool, true, false, if◌then◌else◌, List, [], ◌∷◌, length, take, drop, slice_index, Option, None, Some}
+use Rattle.std.specs.Prelude.{ℕ, zero, suc, ◌+◌, ◌-◌, ◌^◌, ◌==◌, ◌&&◌, ◌||◌, nat_lt, nat_le, Bool, true, false, if◌then◌else◌, List, [], ◌∷◌, length, take, drop, slice_index, Option, None, Some, is_none}
 use Rattle.std.specs.Int.{w64, from_le_bytes}
+use Rattle.std.specs.Option.{option_eq}
+use Rattle.vod_log.specs.declared.header.Kind.{Kind}
+use Rattle.vod_log.specs.declared.header.Kind.TheVariants.{Head, Batch, Image}
 use Rattle.vod_log.specs.declared.header.Header.{Header}
 use Rattle.vod_log.specs.declared.header.Counts.{Counts}
 use Rattle.vod_log.specs.declared.log.Record.{Record}
@@ -9,9 +12,31 @@ use Rattle.vod_log.specs.declared.log.Record.{Record}
 abbrev pub number_at : ℕ → List ℕ → ℕ
 number_at at bytes = from_le_bytes w64 (take 8 (drop at bytes))
 
--- the known-since time where there is none
+-- the number of a kind
+abbrev pub kind_number : Kind → ℕ
+kind_number Head = 1
+kind_number Batch = 2
+kind_number Image = 3
+
+-- the kind with a number from 1 to 3
+abbrev pub kind_of : ℕ → Kind
+kind_of number = if number == 1 then Head else (if number == 2 then Batch else Image)
+
+-- two kinds are the same
+abbrev pub same_kind : Kind → Kind → Bool
+same_kind kind other = kind_number kind == kind_number other
+
+-- the number of the known-since time where there is none: all ones
 abbrev pub never : ℕ
 never = 2 ^ 64 - 1
+
+-- the known-since time with a number
+abbrev pub known_of : ℕ → Option ℕ
+known_of number = if number == never then None else Some number
+
+-- two known-since times are the same
+abbrev pub same_known : Option ℕ → Option ℕ → Bool
+same_known known other = option_eq (λ time time'. time == time') known other
 
 -- a header begins with `VODR`, a kind from 1 to 3, version 1, and two zeros
 abbrev pub begins_header : List ℕ → Bool
@@ -22,12 +47,12 @@ begins_header b =
 -- the fields of a header
 abbrev pub fields_of : List ℕ → Header
 fields_of b = record {
-  kind = slice_index b 4;
+  kind = kind_of (slice_index b 4);
   length = number_at 8 b;
   before = number_at 16 b;
   after = number_at 24 b;
   last = number_at 32 b;
-  known = number_at 40 b;
+  known = known_of (number_at 40 b);
 }
 
 -- the header that these bytes are
@@ -37,27 +62,29 @@ header_of b = if begins_header b then Some (fields_of b) else None
 -- the head, which is record 0: no vectors, no times, and a payload of 8 to 1,048,584 bytes
 abbrev pub is_head : Header → Bool
 is_head h =
-    (h.kind == 1) && (h.before == 0) && (h.after == 0) && (h.last == 0) && (h.known == never)
+    same_kind h.kind Head && (h.before == 0) && (h.after == 0) && (h.last == 0) && is_none h.known
     && nat_le 8 h.length && nat_le h.length 1048584
+
+-- a known-since time is past one last time and not past the next, where there is one
+abbrev pub is_fresh : Option ℕ → ℕ → ℕ → Bool
+is_fresh None past last = true
+is_fresh (Some time) past last = nat_lt past time && nat_le time last
 
 -- the known-since time stays, or is now a time past the previous last one and not past this one
 abbrev pub keeps_known : Header → Header → Bool
-keeps_known p h =
-    if p.known == never
-    then (h.known == never) || (nat_lt p.last h.known && nat_le h.known h.last)
-    else h.known == p.known
+keeps_known p h = if is_none p.known then is_fresh h.known p.last h.last else same_known h.known p.known
 
 -- a batch: 1 to 64 vectors more, to at most 4,294,967,295, with a later last time, and a payload of at most 787,200 bytes
 abbrev pub is_batch : Header → Header → Bool
 is_batch p h =
-    (h.kind == 2) && (h.before == p.after) && nat_lt p.after h.after && nat_le h.after (p.after + 64) && nat_le h.after 4294967295
+    same_kind h.kind Batch && (h.before == p.after) && nat_lt p.after h.after && nat_le h.after (p.after + 64) && nat_le h.after 4294967295
     && nat_lt p.last h.last && nat_le h.last (2 ^ 63 - 1) && keeps_known p h && nat_le h.length 787200
 
 -- an image directly behind a batch: its counts and times, and a payload of at most 1,048,576 bytes
 abbrev pub is_image : Header → Header → Bool
 is_image p h =
-    (h.kind == 3) && (p.kind == 2) && (h.before == p.after) && (h.after == p.after) && nat_le 1 p.after
-    && (h.last == p.last) && (h.known == p.known) && nat_le h.length 1048576
+    same_kind h.kind Image && same_kind p.kind Batch && (h.before == p.after) && (h.after == p.after) && nat_le 1 p.after
+    && (h.last == p.last) && same_known h.known p.known && nat_le h.length 1048576
 
 -- a header may stand behind the previous one, or as the first
 abbrev pub follows : Option Header → Header → Bool
@@ -110,5 +137,5 @@ committed bytes = if nat_le (length bytes) 1 then record { entries = []; gate = 
 
 -- the vectors held, the last time, and the time since when all inputs are known
 abbrev pub counts_of : Option Header → Counts
-counts_of None = record { vectors = 0; last = 0; known = never }
+counts_of None = record { vectors = 0; last = 0; known = None }
 counts_of (Some h) = record { vectors = h.after; last = h.last; known = h.known }

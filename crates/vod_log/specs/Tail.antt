@@ -1,7 +1,8 @@
 -- The end of a log, and one more record behind it.
 use Rattle.std.specs.Prelude.{◌≡◌, ℕ, ◌+◌, ◌*◌, ◌^◌, ◌≤◌, ◌<◌, ◌⊎◌, ◌==◌, Bool, true, if◌then◌else◌, List, [], ◌∷◌, ◌++◌, length, take, slice_index, Option, None, Some}
 use Rattle.vod_deck.specs.Outcomes.{Outcome, View, Only, SameOutcomes}
-use Rattle.vod_log.specs.Format.{Reading, begins_header, fields_of, follows, entry_of, committed}
+use Rattle.vod_log.specs.declared.header.Kind.TheVariants.{Image}
+use Rattle.vod_log.specs.Format.{Reading, same_kind, begins_header, fields_of, follows, entry_of, committed}
 use Rattle.vod_log.specs.declared.header.Header.{Header}
 
 -- the header of a frame
@@ -55,7 +56,7 @@ pub record IsUnchanged (old new : View) : Type 0 where
 -- how many records may stand before a last header, at most
 abbrev pub records_before : Option Header → ℕ
 records_before None = 0
-records_before (Some h) = 2 * h.after + (if h.kind == 3 then 2 else 1)
+records_before (Some h) = 2 * h.after + (if same_kind h.kind Image then 2 else 1)
 
 -- a gate is no further than its records reach, of which none has 2^21 bytes
 pub record IsNear (gate : ℕ) (last : Option Header) : Type 0 where

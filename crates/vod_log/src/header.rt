@@ -1,11 +1,20 @@
 ghost use Rattle.std.specs.Prelude.{◌≡◌, ℕ, ◌+◌, ◌≤◌, ◌<◌, length, nat_le, nat_lt};
-ghost use Rattle.vod_log.specs.Format.{number_at, begins_header, fields_of, header_of, follows, is_head, is_batch, is_image, keeps_known, accepted};
+ghost use Rattle.vod_log.specs.Format.{number_at, kind_of, same_kind, known_of, same_known, begins_header, fields_of, header_of, follows, is_head, is_batch, is_image, is_fresh, keeps_known, accepted};
+
+use vod_io::MAX_TIME;
+
+/// What a record is. The numbers are those of its bytes.
+#[derive(Clone, Copy, Debug, PartialEq, Eq)]
+pub enum Kind {
+    Head = 1,
+    Batch = 2,
+    Image = 3,
+}
 
 /// The header of a record. Counts are of vectors, and times are ticks.
 #[derive(Clone, Copy, Debug, PartialEq, Eq)]
 pub struct Header {
-    /// 1 for the head, 2 for a batch, 3 for an image.
-    pub kind: u8,
+    pub kind: Kind,
     /// How many bytes the payload has.
     pub length: u64,
     /// How many vectors are held before the record.
@@ -14,17 +23,16 @@ pub struct Header {
     pub after: u64,
     /// The last time that is held, 0 where there is none.
     pub last: u64,
-    /// The time since when every input is known, `u64::MAX` where there is none.
-    pub known: u64,
+    /// The time since when every input is known.
+    pub known: Option<u64>,
 }
 
-/// What a log holds: its vectors, the last time, and the time since when every input is known,
-/// `u64::MAX` where there is none.
+/// What a log holds: its vectors, the last time, and the time since when every input is known.
 #[derive(Clone, Copy, Debug, PartialEq, Eq)]
 pub struct Counts {
     pub vectors: u64,
     pub last: u64,
-    pub known: u64,
+    pub known: Option<u64>,
 }
 
 // The number of the eight bytes at an offset, the lowest byte first.
@@ -35,6 +43,36 @@ fn number_at(bytes: &[u8; 48], at: usize) -> u64
     let mut eight = [0; 8];
     eight.copy_from_slice(&bytes[at..at + 8]);
     u64::from_le_bytes(eight)
+}
+
+// The kind with this number, which is from 1 to 3.
+fn kind_of(number: u8) -> Kind
+    ensures { result ≡ kind_of number }
+{
+    if number == 1 {
+        return Kind::Head;
+    }
+    if number == 2 {
+        return Kind::Batch;
+    }
+    Kind::Image
+}
+
+// Whether two kinds are the same.
+fn same_kind(kind: Kind, other: Kind) -> bool
+    ensures { result ≡ same_kind kind other }
+{
+    kind as u8 == other as u8
+}
+
+// The known-since time that a number is; all ones are none.
+fn known_of(number: u64) -> Option<u64>
+    ensures { result ≡ known_of number }
+{
+    if number == u64::MAX {
+        return None;
+    }
+    Some(number)
 }
 
 // Whether these bytes begin as a header does.
@@ -68,34 +106,51 @@ pub(crate) fn fields(bytes: &[u8; 48]) -> Header
     ensures { result ≡ fields_of bytes.now }
 {
     Header {
-        kind: bytes[4],
+        kind: kind_of(bytes[4]),
         length: number_at(bytes, 8),
         before: number_at(bytes, 16),
         after: number_at(bytes, 24),
         last: number_at(bytes, 32),
-        known: number_at(bytes, 40),
+        known: known_of(number_at(bytes, 40)),
     }
 }
 
 fn is_head(h: &Header) -> bool
     ensures { result ≡ is_head h.now }
 {
-    h.kind == 1
+    same_kind(h.kind, Kind::Head)
         && h.before == 0
         && h.after == 0
         && h.last == 0
-        && h.known == u64::MAX
+        && h.known.is_none()
         && 8 <= h.length
         && h.length <= 1_048_584
+}
+
+// Whether two known-since times are the same.
+fn same_known(known: Option<u64>, other: Option<u64>) -> bool
+    ensures { result ≡ same_known known other }
+{
+    known == other
+}
+
+// Whether a known-since time is past one last time and not past the next, where there is one.
+fn is_fresh(known: Option<u64>, past: u64, last: u64) -> bool
+    ensures { result ≡ is_fresh known past last }
+{
+    match known {
+        Some(time) => past < time && time <= last,
+        None => true,
+    }
 }
 
 fn keeps_known(p: &Header, h: &Header) -> bool
     ensures { result ≡ keeps_known p.now h.now }
 {
-    if p.known == u64::MAX {
-        h.known == u64::MAX || p.last < h.known && h.known <= h.last
+    if p.known.is_none() {
+        is_fresh(h.known, p.last, h.last)
     } else {
-        h.known == p.known
+        same_known(h.known, p.known)
     }
 }
 
@@ -109,13 +164,13 @@ fn is_near(before: u64, after: u64) -> bool
 fn is_batch(p: &Header, h: &Header) -> bool
     ensures { result ≡ is_batch p.now h.now }
 {
-    h.kind == 2
+    same_kind(h.kind, Kind::Batch)
         && h.before == p.after
         && p.after < h.after
         && is_near(p.after, h.after)
         && h.after <= 4_294_967_295
         && p.last < h.last
-        && h.last <= 9_223_372_036_854_775_807
+        && h.last <= MAX_TIME
         && keeps_known(p, h)
         && h.length <= 787_200
 }
@@ -123,13 +178,13 @@ fn is_batch(p: &Header, h: &Header) -> bool
 fn is_image(p: &Header, h: &Header) -> bool
     ensures { result ≡ is_image p.now h.now }
 {
-    h.kind == 3
-        && p.kind == 2
+    same_kind(h.kind, Kind::Image)
+        && same_kind(p.kind, Kind::Batch)
         && h.before == p.after
         && h.after == p.after
         && 1 <= p.after
         && h.last == p.last
-        && h.known == p.known
+        && same_known(h.known, p.known)
         && h.length <= 1_048_576
 }
 

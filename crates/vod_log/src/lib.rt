@@ -7,7 +7,7 @@ mod payloads;
 mod reading;
 mod tail;
 
-pub use header::{Counts, Header, read_header};
+pub use header::{Counts, Header, Kind, read_header};
 pub use log::{Log, LogFault, Record};
 pub use payloads::{Bytes, payload};
 pub use tail::{AppendFault, Tail};

@@ -136,7 +136,7 @@ impl Log {
             None => Counts {
                 vectors: 0,
                 last: 0,
-                known: u64::MAX,
+                known: None,
             },
         }
     }

@@ -5,9 +5,9 @@ use Rattle.vod_design.specs.declared.thin.Vector.{Vector}
 use Rattle.vod_design.specs.Netlist.{Netlist, IsAccepted}
 use Rattle.vod_design.specs.Vectors.{IsLawful, times}
 use Rattle.vod_io.specs.Faults.{Rose}
-use Rattle.vod_log.specs.Format.{Entry, committed, counts_of, never}
+use Rattle.vod_log.specs.Format.{Entry, committed, counts_of}
 use Rattle.vod_log.specs.declared.header.Header.{Header}
-use Rattle.vod_thin_replay.specs.Range.{range_of}
+use Rattle.vod_thin_replay.specs.Range.{range_of, since_range}
 use Rattle.vod_thin_replay.specs.declared.held.RangeFault.{RangeFault}
 use Rattle.vod_thin_replay.specs.declared.held.RangeFault.TheVariants as range
 use Rattle.vod_thin_code.specs.Bytes.{IsHead}
@@ -118,10 +118,7 @@ damaged_same replay.Memory told d a b same h = tt
 later : span.Window → Option Header → Result (Unit {0}) RangeFault
 later window last =
     if (counts_of last).vectors == 0 then Err range.NothingHeld
-    else (if (counts_of last).known == never then Err range.NeverKnown
-    else (if nat_lt window.from (counts_of last).known then Err (range.TooEarly (counts_of last).known)
-    else (if nat_lt (counts_of last).last window.to then Err (range.PastEnd (counts_of last).last)
-    else Ok tt)))
+    else since_range (counts_of last).known (counts_of last).last window.from window.to
 
 -- a window that a log holds doesn't end before it begins
 pub in_order : (bytes : List ℕ) (window : span.Window) → IsInside bytes window → window.from ≤ window.to

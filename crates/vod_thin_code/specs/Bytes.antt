@@ -1,5 +1,5 @@
 -- The bytes of a record of a log: numbers are little-endian.
-use Rattle.std.specs.Prelude.{◌≡◌, ℕ, ◌<◌, ◌≤◌, ◌^◌, List, [], ◌∷◌, ◌++◌, length, codes}
+use Rattle.std.specs.Prelude.{◌≡◌, ℕ, ◌<◌, ◌≤◌, ◌^◌, List, [], ◌∷◌, ◌++◌, length, codes, Option, None, Some}
 use Rattle.std.specs.Int.{w32, w64, to_le_bytes}
 use Rattle.std.specs.List.{flat_map}
 use Rattle.std.specs.List.Sorted.{IsStrictlyIncreasing}
@@ -9,6 +9,7 @@ use Rattle.vod_design.specs.declared.thin.Move.{Move}
 use Rattle.vod_design.specs.declared.thin.Vector.{Vector}
 use Rattle.vod_design.specs.Netlist.{Netlist}
 use Rattle.vod_design.specs.Vectors.{IsVector, assigned}
+use Rattle.vod_log.specs.Format.{kind_number, never}
 use Rattle.vod_log.specs.declared.header.Header.{Header}
 
 -- the number of a value; no vector has x or z
@@ -34,11 +35,16 @@ batch_bytes vs = flat_map vector_bytes vs
 abbrev pub head_bytes : ℕ → List ℕ → List ℕ
 head_bytes interval source = to_le_bytes w64 interval ++ source
 
+-- the number of a known-since time: all ones where there is none
+abbrev pub known_number : Option ℕ → ℕ
+known_number None = never
+known_number (Some time) = time
+
 -- a header: `VODR`, the kind, version 1, two zeros, and five numbers of eight bytes
 abbrev pub header_bytes : Header → List ℕ
 header_bytes h =
-    codes "VODR" ++ (h.kind ∷ 1 ∷ 0 ∷ 0 ∷ [])
-    ++ to_le_bytes w64 h.length ++ to_le_bytes w64 h.before ++ to_le_bytes w64 h.after ++ to_le_bytes w64 h.last ++ to_le_bytes w64 h.known
+    codes "VODR" ++ (kind_number h.kind ∷ 1 ∷ 0 ∷ 0 ∷ [])
+    ++ to_le_bytes w64 h.length ++ to_le_bytes w64 h.before ++ to_le_bytes w64 h.after ++ to_le_bytes w64 h.last ++ to_le_bytes w64 (known_number h.known)
 
 -- a record behind its gate: header, payload, and a closed gate
 abbrev pub record_bytes : Header → List ℕ → List ℕ

@@ -1,5 +1,5 @@
 -- What a log holds: the source of a design, and vectors in batches.
-use Rattle.std.specs.Prelude.{◌≡◌, ℕ, ◌+◌, ◌≤◌, ◌==◌, ◌⊎◌, true, List, [], ◌∷◌, ◌++◌, length, All, Option, None, Some, if◌then◌else◌}
+use Rattle.std.specs.Prelude.{◌≡◌, ℕ, ◌+◌, ◌≤◌, ◌==◌, ◌⊎◌, true, List, [], ◌∷◌, ◌++◌, length, All, None, if◌then◌else◌}
 use Rattle.std.specs.Fmt.{decimal}
 use Rattle.std.specs.Prelude.{codes}
 use Rattle.vod_design.specs.declared.thin.Vector.{Vector}
@@ -7,25 +7,21 @@ use Rattle.vod_design.specs.Netlist.{Netlist}
 use Rattle.vod_design.specs.Vectors.{IsLawful, known_since, last_time}
 use Rattle.vod_log.specs.declared.header.Header.{Header}
 use Rattle.vod_log.specs.declared.header.Counts.{Counts}
-use Rattle.vod_log.specs.Format.{Entry, never, committed}
+use Rattle.vod_log.specs.declared.header.Kind.TheVariants.{Head, Batch}
+use Rattle.vod_log.specs.Format.{Entry, committed}
 use Rattle.vod_thin_code.specs.Bytes.{batch_bytes, IsHead, IsInForm}
-
--- the time since when every input is known, as a header has it
-abbrev pub known_number : Option ℕ → ℕ
-known_number None = never
-known_number (Some time) = time
 
 -- how many vectors there are, the last time, and the time since when every input is known
 abbrev pub counts : Netlist → List Vector → Counts
-counts d vs = record { vectors = length vs; last = last_time vs; known = known_number (known_since d vs) }
+counts d vs = record { vectors = length vs; last = last_time vs; known = known_since d vs }
 
 -- the header of a head with this source
 abbrev pub head_header : List ℕ → Header
-head_header source = record { kind = 1; length = 8 + length source; before = 0; after = 0; last = 0; known = never }
+head_header source = record { kind = Head; length = 8 + length source; before = 0; after = 0; last = 0; known = None }
 
 -- the header of a batch of these vectors, behind so many
 abbrev pub batch_header : ℕ → List Vector → Counts → Header
-batch_header before vs after = record { kind = 2; length = length (batch_bytes vs); before = before; after = after.vectors; last = after.last; known = after.known }
+batch_header before vs after = record { kind = Batch; length = length (batch_bytes vs); before = before; after = after.vectors; last = after.last; known = after.known }
 
 -- a record is the batch of these vectors, behind those of before
 pub record IsBatch (d : Netlist) (before : List Vector) (e : Entry) (vs : List Vector) : Type 0 where

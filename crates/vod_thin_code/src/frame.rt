@@ -1,14 +1,15 @@
 //! The bytes of a record: its header, its payload, and a closed gate.
 ghost use Rattle.std.specs.Prelude.{◌≡◌, ◌+◌, ◌<◌, ◌≤◌, ◌^◌, [], ◌∷◌, ◌++◌, length, IfOk, OnOk};
 ghost use Rattle.std.specs.List.{flat_map};
-ghost use Rattle.vod_thin_code.specs.Bytes.{number_of, move_bytes, vector_bytes, batch_bytes, head_bytes, header_bytes, record_bytes};
+ghost use Rattle.vod_log.specs.Format.{kind_number};
+ghost use Rattle.vod_thin_code.specs.Bytes.{known_number, number_of, move_bytes, vector_bytes, batch_bytes, head_bytes, header_bytes, record_bytes};
 ghost use Rattle.vod_thin_code.specs.Held.{head_header, batch_header};
 
 use crate::Memory;
 use std::alloc::Global;
 use std::marker::Model;
 use vod_design::thin::{Bit, Move, Vector};
-use vod_log::{Counts, Header};
+use vod_log::{Counts, Header, Kind};
 
 // The number of a value.
 fn number(value: Bit) -> u64
@@ -74,6 +75,23 @@ fn batch_len(vectors: &[Vector]) -> u64
     total
 }
 
+// The number of a known-since time, all ones where there is none.
+fn known_number(known: Option<u64>) -> u64
+    ensures { result ≡ known_number known }
+{
+    match known {
+        Some(time) => time,
+        None => u64::MAX,
+    }
+}
+
+// The number of a kind.
+fn kind_number(kind: Kind) -> u8
+    ensures { result ≡ kind_number kind }
+{
+    kind as u8
+}
+
 // Makes some bytes a header, and takes the room for its payload and the closed gate.
 fn begin(bytes: &mut Vec<u8>, h: &Header) -> Result<(), Memory>
     requires { h.now.length < 2 ^ 63 }
@@ -82,12 +100,12 @@ fn begin(bytes: &mut Vec<u8>, h: &Header) -> Result<(), Memory>
     bytes.clear();
     bytes.reserve(49 + h.length as usize)?;
     bytes.extend_from_slice(b"VODR")?;
-    bytes.extend_from_slice(&[h.kind, 1, 0, 0])?;
+    bytes.extend_from_slice(&[kind_number(h.kind), 1, 0, 0])?;
     bytes.extend_from_slice(&h.length.to_le_bytes())?;
     bytes.extend_from_slice(&h.before.to_le_bytes())?;
     bytes.extend_from_slice(&h.after.to_le_bytes())?;
     bytes.extend_from_slice(&h.last.to_le_bytes())?;
-    bytes.extend_from_slice(&h.known.to_le_bytes())?;
+    bytes.extend_from_slice(&known_number(h.known).to_le_bytes())?;
     Ok(())
 }
 
@@ -97,12 +115,12 @@ fn write_head(bytes: &mut Vec<u8>, interval: u32, source: &[u8]) -> Result<(), M
     ensures { OnOk result (bytes.new.items ≡ record_bytes (head_header source.now) (head_bytes interval source.now)) }
 {
     let header = Header {
-        kind: 1,
+        kind: Kind::Head,
         length: 8 + source.len() as u64,
         before: 0,
         after: 0,
         last: 0,
-        known: u64::MAX,
+        known: None,
     };
     begin(bytes, &header)?;
     bytes.extend_from_slice(&u64::from(interval).to_le_bytes())?;
@@ -122,7 +140,7 @@ fn write_batch(
     ensures { OnOk result (bytes.new.items ≡ record_bytes (batch_header before vectors.now after) (batch_bytes vectors.now)) }
 {
     let header = Header {
-        kind: 2,
+        kind: Kind::Batch,
         length: batch_len(vectors),
         before,
         after: after.vectors,

@@ -1,5 +1,5 @@
 //! Laws of the bytes of records.
-ghost use Rattle.std.specs.Prelude.{◌≡◌, ℕ, ◌+◌, ◌*◌, ◌<◌, ◌≤◌, ◌^◌, true, List, ◌++◌, length, take, slice_index, All};
+ghost use Rattle.std.specs.Prelude.{◌≡◌, ℕ, ◌+◌, ◌*◌, ◌<◌, ◌≤◌, ◌^◌, true, List, ◌++◌, length, take, slice_index, All, IfSome, ◌-◌};
 ghost use Rattle.vod_design.specs.declared.thin.Vector.{Vector};
 ghost use Rattle.vod_design.specs.Netlist.{Netlist, IsAccepted};
 ghost use Rattle.vod_log.specs.declared.header.Header.{Header};
@@ -10,8 +10,8 @@ ghost use Rattle.vod_thin_code.specs.Held.{IsHeld};
 
 /// A record's bytes are a frame of a log: its header, its payload, and a closed gate.
 pub fn frames_are_records()
-    ensures begins { (h : Header) (payload : List ℕ) → 1 ≤ h.kind → h.kind ≤ 3 → begins_header (take 48 (record_bytes h payload)) ≡ true }
-    ensures header { (h : Header) (payload : List ℕ) → h.kind < 2 ^ 8 → h.length < 2 ^ 64 → h.before < 2 ^ 64 → h.after < 2 ^ 64 → h.last < 2 ^ 64 → h.known < 2 ^ 64 →
+    ensures begins { (h : Header) (payload : List ℕ) → begins_header (take 48 (record_bytes h payload)) ≡ true }
+    ensures header { (h : Header) (payload : List ℕ) → h.length < 2 ^ 64 → h.before < 2 ^ 64 → h.after < 2 ^ 64 → h.last < 2 ^ 64 → IfSome h.known (λ time. time < 2 ^ 64 - 1) →
         frame_header (record_bytes h payload) ≡ h }
     ensures long { (h : Header) (payload : List ℕ) → length (record_bytes h payload) ≡ 49 + length payload }
     ensures closed { (h : Header) (payload : List ℕ) → slice_index (record_bytes h payload) (48 + length payload) ≡ 0 }

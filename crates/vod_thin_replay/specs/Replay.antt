@@ -4,11 +4,12 @@ use Rattle.vod_design.specs.declared.thin.Vector.{Vector}
 use Rattle.vod_design.specs.Netlist.{Netlist}
 use Rattle.vod_design.specs.Vectors.{IsLawful, times, known_since, last_time}
 use Rattle.vod_log.specs.declared.header.Header.{Header}
+use Rattle.vod_log.specs.declared.header.Kind.TheVariants.{Batch}
 use Rattle.vod_log.specs.declared.log.Record.{Record}
 use Rattle.vod_log.specs.Format.{Entry, committed}
 use Rattle.vod_log.specs.Opened.{LogView, IsLogOf, ArePlaced, payload_at}
 use Rattle.vod_thin_code.specs.Bytes.{IsHead, IsInForm, batch_bytes}
-use Rattle.vod_thin_code.specs.Held.{known_number, IsBatch, AreBatches, IsHeld}
+use Rattle.vod_thin_code.specs.Held.{IsBatch, AreBatches, IsHeld}
 use Rattle.vod_thin_script.specs.History.{Past}
 use Rattle.vod_thin_replay.specs.declared.ReplayFault.{ReplayFault}
 use Rattle.vod_thin_replay.specs.declared.ReplayFault.TheVariants.{Deck, Damaged, Memory}
@@ -118,12 +119,12 @@ pub record AddsBatch (d : Netlist) (before : List Vector) (e : Entry) (after : L
 -- the header of a batch of 1 to 64 vectors, those behind this place, with so many bytes
 pub record IsHeaded (before bytes : ℕ) (past : Past) (h : Header) : Type 0 where
   pub header : h ≡ record {
-    kind = 2;
+    kind = Batch;
     length = bytes;
     before = before;
     after = length past.vectors;
     last = last_time past.vectors;
-    known = known_number (known_since past.design past.vectors);
+    known = known_since past.design past.vectors;
   }
   pub some : before < length past.vectors
   pub few : length past.vectors ≤ before + 64

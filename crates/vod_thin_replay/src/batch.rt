@@ -7,7 +7,7 @@ ghost use Rattle.vod_thin_replay.specs.declared.ReplayFault.TheVariants.{Deck as
 use crate::ReplayFault;
 use std::alloc::{AllocError, Global};
 use vod_design::thin::Design;
-use vod_log::{Header, Record};
+use vod_log::{Header, Kind, Record};
 use vod_thin_code::{one_batch, read_vector};
 use vod_thin_script::{AddFault, History};
 
@@ -74,12 +74,12 @@ fn is_headed(entry: &Record, before: usize, length: usize, past: &History<'_>) -
 {
     let after = past.vectors().len();
     let header = Header {
-        kind: 2,
+        kind: Kind::Batch,
         length: length as u64,
         before: before as u64,
         after: after as u64,
         last: past.last_time(),
-        known: past.known_since().unwrap_or(u64::MAX),
+        known: past.known_since(),
     };
     entry.header == header && before < after && after - before <= 64
 }

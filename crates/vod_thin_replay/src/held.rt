@@ -1,9 +1,10 @@
 //! What a log holds by its headers alone.
 ghost use Rattle.std.specs.Prelude.{◌≡◌};
-ghost use Rattle.vod_log.specs.Format.{counts_of};
+ghost use Rattle.vod_log.specs.Format.{counts_of, same_kind};
+ghost use Rattle.vod_log.specs.declared.header.Kind.TheVariants.{Image};
 ghost use Rattle.vod_thin_replay.specs.Range.{range_of, first_image};
 
-use vod_log::Log;
+use vod_log::{Kind, Log};
 
 /// Why a window isn't in a log. Times are ticks.
 #[derive(Clone, Copy, Debug, PartialEq, Eq)]
@@ -31,11 +32,11 @@ pub fn range(log: &Log, from: u64, to: u64) -> Result<(), RangeFault>
     if held.vectors == 0 {
         return Err(RangeFault::NothingHeld);
     }
-    if held.known == u64::MAX {
+    let Some(known) = held.known else {
         return Err(RangeFault::NeverKnown);
-    }
-    if from < held.known {
-        return Err(RangeFault::TooEarly(held.known));
+    };
+    if from < known {
+        return Err(RangeFault::TooEarly(known));
     }
     if held.last < to {
         return Err(RangeFault::PastEnd(held.last));
@@ -43,11 +44,18 @@ pub fn range(log: &Log, from: u64, to: u64) -> Result<(), RangeFault>
     Ok(())
 }
 
+// Whether a record of this kind is an image.
+fn is_image(kind: Kind) -> bool
+    ensures { result ≡ same_kind kind Image }
+{
+    kind as u8 == Kind::Image as u8
+}
+
 /// The gate of the first image of a log.
 pub fn first_image(log: &Log) -> Option<u64>
     ensures { result ≡ first_image log.now.records }
 {
     let records = log.records();
-    let image = records.iter().find(|record| record.header.kind == 3)?;
+    let image = records.iter().find(|record| is_image(record.header.kind))?;
     Some(image.at)
 }

@@ -7,5 +7,4 @@ pub mod Held
 pub mod Lines
 pub mod Said
 pub mod Stored
-pub mod Ticks
 pub mod Vectors

@@ -13,7 +13,7 @@ use Rattle.vod_log.specs.declared.header.Counts.{Counts}
 use Rattle.vod_log.specs.Format.{committed, follows}
 use Rattle.vod_log.specs.Tail.{Continues, IsSettled, appended, frame_header}
 use Rattle.vod_thin_code.specs.Bytes.{batch_bytes, record_bytes, IsInForm}
-use Rattle.vod_thin_code.specs.Held.{known_number, counts, batch_header, ack, said, IsHeld, IsSound}
+use Rattle.vod_thin_code.specs.Held.{counts, batch_header, ack, said, IsHeld, IsSound}
 use Rattle.vod_thin_store.specs.Stored.{HasSaid, BeginsWith, Adds, Commits, known_by, EndsWith, HasStored}
 use Rattle.vod_thin_store.proofs.Vectors.{Rises, lawful-rises, last-of, last-more, last-within, known-front, All-front, All-back, lawful-front, in-form}
 use Rattle.vod_thin_store.proofs.Said.{said-more}
@@ -52,7 +52,7 @@ pub next-batches : (vs : List Vector) (k n : ℕ) (batch : List Vector) → k �
 next-batches vs k n batch at lt is = omega (arith, ap length is, length-take 64 (drop k vs), length-drop k vs)
 
 -- the counts behind a batch, as they are written
-abbrev pub written : ℕ → List Vector → ℕ → ℕ → Counts
+abbrev pub written : ℕ → List Vector → ℕ → Option ℕ → Counts
 written k batch last since = record { vectors = k + length batch; last = last; known = since }
 
 module _ (d : Netlist) (vs : List Vector) (known : Option ℕ) (script : IsScript d vs known) (k : ℕ) (most : k ≤ length vs) (batch : List Vector) (cut : IsCut vs (take k vs) batch) where
@@ -77,13 +77,13 @@ module _ (d : Netlist) (vs : List Vector) (known : Option ℕ) (script : IsScrip
   both-lawful : IsLawful d (front ++ batch)
   both-lawful = lawful-front d (front ++ batch) cut.rest (subst (IsLawful d) cut.whole script.lawful)
 
-  front-known : known_number (known_since d front) ≡ known_by known (last_time front)
+  front-known : known_since d front ≡ known_by known (last_time front)
   front-known =
       known-front d [] 0 front (batch ++ cut.rest) (subst (Rises 0) whole (lawful-rises d vs script.lawful))
       ∙ ap (λ xs. known_by (known_since d xs) (last_time front)) (sym whole)
       ∙ ap (λ o. known_by o (last_time front)) (sym script.known_is)
 
-  both-known : known_number (known_since d (front ++ batch)) ≡ known_by known (last_time (front ++ batch))
+  both-known : known_since d (front ++ batch) ≡ known_by known (last_time (front ++ batch))
   both-known =
       known-front d [] 0 (front ++ batch) cut.rest (subst (Rises 0) cut.whole (lawful-rises d vs script.lawful))
       ∙ ap (λ xs. known_by (known_since d xs) (last_time (front ++ batch))) (sym cut.whole)
@@ -97,10 +97,10 @@ module _ (d : Netlist) (vs : List Vector) (known : Option ℕ) (script : IsScrip
       (All-back (λ v. IsStrictlyIncreasing (assigned v.moves)) front batch (All-front (λ v. IsStrictlyIncreasing (assigned v.moves)) (front ++ batch) cut.rest all_rise))
 
   -- the counts that are written are those of the vectors so far
-  pub counts-are : (last since : ℕ) → last ≡ last_time batch → since ≡ known_by known last → written k batch last since ≡ counts d (front ++ batch)
+  pub counts-are : (last : ℕ) (since : Option ℕ) → last ≡ last_time batch → since ≡ known_by known last → written k batch last since ≡ counts d (front ++ batch)
   counts-are last since time is =
       let latest : last ≡ last_time (front ++ batch) = time ∙ sym (last-of front batch cut.some) in
-      let then : since ≡ known_number (known_since d (front ++ batch)) = is ∙ ap (λ t. known_by known t) latest ∙ sym both-known in
+      let then : since ≡ known_since d (front ++ batch) = is ∙ ap (λ t. known_by known t) latest ∙ sym both-known in
       ap (λ n. let a : Counts = record { vectors = n; last = last; known = since } in a) (sym both-size)
       ∙ ap (λ n. let a : Counts = record { vectors = length (front ++ batch); last = n; known = since } in a) latest
       ∙ ap (λ n. let a : Counts = record { vectors = length (front ++ batch); last = last_time (front ++ batch); known = n } in a) then

@@ -10,9 +10,7 @@ use Rattle.vod_design.specs.declared.thin.Move.{Move}
 use Rattle.vod_design.specs.declared.thin.Vector.{Vector}
 use Rattle.vod_design.specs.Netlist.{Netlist}
 use Rattle.vod_design.specs.Vectors.{IsVector, IsLawful, AreUnmixed, assigned, gives_all, times, known_since_after, last_time, last_time_after}
-use Rattle.vod_log.specs.Format.{never}
 use Rattle.vod_thin_code.specs.Bytes.{IsInForm}
-use Rattle.vod_thin_code.specs.Held.{known_number}
 use Rattle.vod_thin_store.specs.Stored.{known_by}
 
 -- each vector is later than the one before it, and the first than a time
@@ -77,18 +75,18 @@ last-within t (v ∷ vs) lt all =
     last-within v.time vs (All-head (λ t. (1 ≤ t) × (t < 2 ^ 63)) v.time (times vs) all).1 (All-tail (λ t. (1 ≤ t) × (t < 2 ^ 63)) v.time (times vs) all)
 
 -- before the last time is reached, nothing is known
-known-later : (d : Netlist) (given : List Move) (t : ℕ) (vs : List Vector) → Rises t vs → known_by (known_since_after d given vs) t ≡ never
+known-later : (d : Netlist) (given : List Move) (t : ℕ) (vs : List Vector) → Rises t vs → known_by (known_since_after d given vs) t ≡ None
 known-later d given t [] up = refl
 known-later d given t (v ∷ vs) up =
     by_test (gives_all d (given ++ v.moves)) (known-later d (given ++ v.moves) t vs (rises-sooner t v.time vs (omega (arith, up.0)) up.1))
   where
-    by_test : (b : Bool) → known_by (known_since_after d (given ++ v.moves) vs) t ≡ never → known_by (if b then Some v.time else known_since_after d (given ++ v.moves) vs) t ≡ never
-    by_test true more = (let late : nat_le v.time t ≡ false = grind (arith, nat_tests, up.0) in ap (λ b. if b then v.time else never) late)
+    by_test : (b : Bool) → known_by (known_since_after d (given ++ v.moves) vs) t ≡ None → known_by (if b then Some v.time else known_since_after d (given ++ v.moves) vs) t ≡ None
+    by_test true more = (let late : nat_le v.time t ≡ false = grind (arith, nat_tests, up.0) in ap (λ b. if b then Some v.time else None) late)
     by_test false more = more
 
 -- since when a front of vectors knows every input is what the whole tells, up to its last time
 pub known-front : (d : Netlist) (given : List Move) (t : ℕ) (front vs : List Vector) → Rises t (front ++ vs) →
-    known_number (known_since_after d given front) ≡ known_by (known_since_after d given (front ++ vs)) (last_time_after t front)
+    known_since_after d given front ≡ known_by (known_since_after d given (front ++ vs)) (last_time_after t front)
 known-front d given t [] vs up = sym (known-later d given t vs up)
 known-front d given t (v ∷ front) vs up = by_test (gives_all d (given ++ v.moves)) (known-front d (given ++ v.moves) v.time front vs up.1)
   where
@@ -96,13 +94,13 @@ known-front d given t (v ∷ front) vs up = by_test (gives_all d (given ++ v.mov
     rises-front t [] up = tt
     rises-front t (w ∷ front) up = (up.0, rises-front w.time front up.1)
 
-    by_test : (b : Bool) → known_number (known_since_after d (given ++ v.moves) front) ≡ known_by (known_since_after d (given ++ v.moves) (front ++ vs)) (last_time_after v.time front)
-        → known_number (if b then Some v.time else known_since_after d (given ++ v.moves) front)
+    by_test : (b : Bool) → known_since_after d (given ++ v.moves) front ≡ known_by (known_since_after d (given ++ v.moves) (front ++ vs)) (last_time_after v.time front)
+        → (if b then Some v.time else known_since_after d (given ++ v.moves) front)
         ≡ known_by (if b then Some v.time else known_since_after d (given ++ v.moves) (front ++ vs)) (last_time_after v.time front)
     by_test true more =
         (let low : v.time ≤ last_time_after v.time front = last-least v.time front (rises-front v.time front up.1) in
         let early : nat_le v.time (last_time_after v.time front) ≡ true = grind (arith, nat_tests) in
-        sym (ap (λ b. if b then v.time else never) early))
+        sym (ap (λ b. if b then Some v.time else None) early))
     by_test false more = more
 
 pub All-front : {X : Type 0} (P : X → Type 0) (xs ys : List X) → All P (xs ++ ys) → All P xs

@@ -4,7 +4,7 @@ use Rattle.vod_deck.specs.Outcomes.{Outcome, View, From, Leaves}
 use Rattle.vod_design.specs.declared.thin.Vector.{Vector}
 use Rattle.vod_design.specs.Netlist.{Netlist}
 use Rattle.vod_log.specs.declared.header.Header.{Header}
-use Rattle.vod_log.specs.Format.{Reading, never, committed, counts_of}
+use Rattle.vod_log.specs.Format.{Reading, committed, counts_of}
 use Rattle.vod_log.specs.Tail.{HoldsEither, IsSettled}
 use Rattle.vod_thin_code.specs.Held.{counts, said, IsHeld, IsSound}
 
@@ -47,10 +47,10 @@ pub record HasBegunToSay (new : Reading) (text : List ℕ) (d c : Outcome) : Typ
 abbrev pub Commits : Reading → Reading → List ℕ → Outcome → Outcome → Type 0
 Commits old new text d c = HoldsEither old new d c ⊎ HasBegunToSay new text d c
 
--- the time since when every input is known, as a header with this last time has it
-abbrev pub known_by : Option ℕ → ℕ → ℕ
-known_by None last = never
-known_by (Some time) last = if nat_le time last then time else never
+-- the time since when every input is known, where it isn't past this last time
+abbrev pub known_by : Option ℕ → ℕ → Option ℕ
+known_by None last = None
+known_by (Some time) last = if nat_le time last then Some time else None
 
 -- the last header of a log has the counts of these vectors
 pub record EndsWith (d : Netlist) (vs : List Vector) (last : Option Header) : Type 0 where

@@ -90,18 +90,18 @@ fn last_time(vectors: &[Vector]) -> u64
     }
 }
 
-/// The time since when every input is known, as a header with this last time has it.
-fn known_by(known: Option<u64>, last: u64) -> u64
+/// The time since when every input is known, where it isn't past this last time.
+fn known_by(known: Option<u64>, last: u64) -> Option<u64>
     ensures { result ≡ known_by known last }
 {
     match known {
         Some(time) => {
             if time <= last {
-                return time;
+                return known;
             }
-            u64::MAX
+            None
         }
-        None => u64::MAX,
+        None => None,
     }
 }
 
