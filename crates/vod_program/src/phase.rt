@@ -73,7 +73,7 @@ fn fault_within(fault: Fault, lines: u64) -> Fault
 }
 
 /// A source and its design.
-#[derive(Debug, Drop)]
+#[derive(Drop)]
 pub struct Reading {
     pub source: Vec<u8>,
     pub design: Design,
