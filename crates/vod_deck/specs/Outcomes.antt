@@ -88,3 +88,7 @@ IsRead before now n result = MatchResult result (λ _. now ≡ capped (before + 
 -- after a text was said, each outcome has it behind the longest text from before
 abbrev pub IsSaid : View → View → List ℕ → Type 0
 IsSaid old new text = (c : Outcome) → new.may_leave c → From old.may_leave (SaysAll old.may_leave text) c
+
+-- the file as a read gives it is one that a crash now may leave, with some text
+abbrev pub IsLive : View → Type 0
+IsLive v = (said : List ℕ) × v.may_leave (record { file = v.bytes; said = said })

@@ -1,6 +1,6 @@
 ghost use Rattle.std.specs.Prelude.{◌≡◌, ℕ, ◌+◌, ◌^◌, ◌≤◌, ◌<◌, length, take, drop, IfOk, OnOk, OnErr};
 ghost use Rattle.vod_io.specs.Faults.{HasCause};
-ghost use Rattle.vod_deck.specs.Outcomes.{Outcome, View, Holds, Torn, Writes, Stays, IsSaid, Says, Only, Elapses, SameOutcomes, IsRead};
+ghost use Rattle.vod_deck.specs.Outcomes.{Outcome, View, Holds, Torn, Writes, Stays, IsSaid, Says, Only, Elapses, SameOutcomes, IsRead, IsLive};
 
 use vod_io::Failed;
 
@@ -57,6 +57,10 @@ pub trait Deck {
         ensures outcomes { tells → Elapses (view self.old) (view self.new) (Says (view self.old).may_leave text.now) }
         ensures caused { HasCause (view self.old).faults (view self.new).faults result }
         ensures read { (view self.new).bytes_read ≡ (view self.old).bytes_read };
+
+    /// A law, which does nothing when it runs: the file as a read gives it is one that a crash now may leave.
+    fn lives(&self)
+        ensures { tells → IsLive (view self.now) };
 
     /// This moment is one of those since an earlier one.
     ghost counts_now: { (deck : Self) (t : ℕ) (c : Outcome) → t ≤ (view deck).moment → (view deck).may_leave c → (view deck).left_since t c };

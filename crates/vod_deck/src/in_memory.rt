@@ -1,6 +1,6 @@
 ghost use Rattle.std.specs.Prelude.{◌≡◌, ℕ, ◌+◌, ◌-◌, ◌^◌, ◌≤◌, ◌<◌, ◌↔◌, ◌⊎◌, [], ◌∷◌, ◌++◌, length, take, drop, max, min, true, false, Contains, IfOk, OnOk, OnErr, IsErr, IsTrue, vec_len, vec_capacity};
 ghost use Rattle.vod_io.specs.Faults.{HasCause};
-ghost use Rattle.vod_deck.specs.Outcomes.{Holds, Torn, Writes, Stays, Says, IsSaid, Only, Elapses, SameOutcomes, IsRead, capped};
+ghost use Rattle.vod_deck.specs.Outcomes.{Holds, Torn, Writes, Stays, Says, IsSaid, Only, Elapses, SameOutcomes, IsRead, IsLive, capped};
 ghost use Rattle.vod_deck.specs.Moments.{told-counts_now, told-only_now};
 ghost use Rattle.vod_deck.specs.InMemory.{laid, picked, told, spent, faulted, disk_of, sure_text, IsStopped, RefusesWrite, RefusesSync, RefusesText};
 
@@ -421,5 +421,11 @@ impl Deck for MemDeck {
         note(&mut self.calls, Call::Said { count, held: true });
         self.sure = self.texts.len();
         Ok(())
+    }
+
+    fn lives(&self)
+        ensures { IsLive (told self.now) }
+    {
+        let _ = &self.bytes;
     }
 }
