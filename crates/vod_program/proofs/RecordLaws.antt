@@ -1,13 +1,14 @@
--- Each answer of `record`, and what a stop in it leaves.
-use Rattle.std.proofs.Common.{◌≡◌, ℕ, ◌<◌, ◌≤◌, ◌⊎◌, List, [], ◌∷◌, ◌++◌, length, true, false, nat_le, None, Result, Ok, Err, refl, sym, ap, subst, ◌∙◌, inl, inr, arith, cond}
-use Rattle.vod_deck.specs.Outcomes.{Outcome, View, From, Only, Leaves}
+-- Each answer of `record`, and what a crash in it leaves.
+use Rattle.std.proofs.Common.{◌≡◌, ℕ, ◌<◌, ◌≤◌, ◌⊎◌, List, [], ◌∷◌, ◌++◌, length, take, true, false, nat_le, None, Result, Ok, Err, refl, sym, ap, subst, ◌∙◌, inl, inr, arith, cond}
+use Rattle.std.proofs.lemmas.List.{length-take-le}
+use Rattle.vod_deck.specs.Outcomes.{Outcome, View, From, Only, Leaves, IsLive}
 use Rattle.vod_deck.proofs.Leaves.{leaves-wider, leaves-then}
 use Rattle.vod_log.specs.Format.{Reading, committed}
 use Rattle.vod_log.specs.Tail.{Opens}
 use Rattle.vod_design.specs.declared.thin.Vector.{Vector}
 use Rattle.vod_design.specs.Netlist.{Netlist}
-use Rattle.vod_thin_code.specs.Held.{IsEmpty}
-use Rattle.vod_thin_store.specs.Stored.{HasSaid, IsAsBefore, Adds, Records}
+use Rattle.vod_thin_code.specs.Held.{IsHeld, IsEmpty, Acknowledges}
+use Rattle.vod_thin_store.specs.Stored.{HasSaid, IsAsBefore, HoldsFirst, Adds, Records}
 use Rattle.vod_thin_store.specs.declared.StoreFault.{StoreFault}
 use Rattle.vod_thin_store.specs.declared.StoreFault.TheVariants as store
 use Rattle.vod_thin_window.specs.Request.{Request}
@@ -15,7 +16,7 @@ use Rattle.vod_program.specs.declared.status.Part.TheVariants as part
 use Rattle.vod_program.specs.declared.status.Fault.{Fault}
 use Rattle.vod_program.specs.declared.status.Fault.TheVariants as failed
 use Rattle.vod_program.specs.Phases.{store_fault, Fails}
-use Rattle.vod_program.specs.Answer.{Inputs, Device, IsRisen, IsDeckRisen, IsFresh, HasDesign, HasNoDesign, HasNoRecording, AsksFor, RecordAnswers, IsLeft}
+use Rattle.vod_program.specs.Answer.{Inputs, Device, IsRisen, IsDeckRisen, IsFresh, HasDesign, HasNoDesign, HasNoRecording, Asks, AsksFor, RecordAnswers, IsLeft, Reads, HoldsSome, IsAcknowledged, KeepsAcknowledged}
 
 pub no_design : (i : Inputs) (deck : Device) (f : Fault) → Fails part.Design f (HasNoDesign i) → (f ≡ failed.Read → IsRisen i.design_faults) → RecordAnswers i deck (Err f)
 no_design i deck f (inl e) read = subst (λ v. RecordAnswers i deck (Err v)) (sym e) (inl (read e))
@@ -106,7 +107,7 @@ recorded_by i deck r m c fresh file (e, may, few, said) asks (inr (k, h)) = (
   ),
 )
 
--- what a stop in the whole of `record` leaves
+-- what a crash in the whole of `record` leaves
 pub record_left : (i : Inputs) (deck : Device) (mid : View) (r : Request) → IsFresh deck → ((P : Request → Type 0) → P r → AsksFor i P) →
     Leaves deck.before mid (From deck.before.may_leave (Opens deck.before.bytes)) →
     ((m : Outcome) → mid.may_leave m → (m.file ≡ 0 ∷ []) × IsCreated deck.before m) →
@@ -130,3 +131,45 @@ pub begun_with : (old mid : View) → Leaves old mid (From old.may_leave (Opens 
 begun_with old mid leaves counts only lasts is m may =
     let file : m.file ≡ 0 ∷ [] = lasts m may ∙ is in
     (file, created old old.bytes m file (now_from old mid (From old.may_leave (Opens old.bytes)) leaves counts only m may))
+
+-- the file as it reads afterwards is what a crash during the call may have left
+pub reads_left : (i : Inputs) (deck : Device) → Leaves deck.before deck.after (From deck.before.may_leave (IsLeft i deck)) →
+    ((t : ℕ) (c : Outcome) → t ≤ deck.after.moment → deck.after.may_leave c → deck.after.left_since t c) → ((c : Outcome) → deck.before.left_since deck.before.moment c → deck.before.may_leave c) →
+    IsLive deck.after → Reads i deck
+reads_left i deck leaves counts only (text, may) = (text, by_left (now_from deck.before deck.after (From deck.before.may_leave (IsLeft i deck)) leaves counts only c may))
+  where
+    c : Outcome
+    c = record { file = deck.after.bytes; said = text }
+
+    by_left : deck.before.may_leave c ⊎ From deck.before.may_leave (IsLeft i deck) c → From deck.before.may_leave (IsLeft i deck) c
+    by_left (inl was) = (c, was, inl (refl, refl))
+    by_left (inr from) = from
+
+-- a text that a file of one byte or none backs acknowledges nothing
+none_acknowledged : (e : Outcome) → length e.file ≤ 1 → IsAcknowledged e → (n : ℕ) → Acknowledges e.said n → n ≡ 0
+none_acknowledged e few kept n said = by_held (kept n said)
+  where
+    by_held : HoldsSome e.file n → n ≡ 0
+    by_held (inl none) = none
+    by_held (inr (d, source, interval, vs, held, most)) = let clash : [] ≡ held.head ∷ held.batches = sym (short_is_empty e.file few).none ∙ held.entries in cc
+
+-- what the law of the recording says: an outcome that holds the first k vectors acknowledges k at most, where none were before
+abbrev pub SaidIsHeld : Type 0
+SaidIsHeld = (d : Netlist) (source : List ℕ) (vs : List Vector) (e c : Outcome) (k : ℕ) → HoldsFirst d source vs e c k → ((n : ℕ) → Acknowledges e.said n → n ≡ 0) → (n : ℕ) → Acknowledges c.said n → n ≤ k
+
+-- an outcome from one that holds what it acknowledges does too
+left_acknowledged : SaidIsHeld → (i : Inputs) (deck : Device) (e c : Outcome) → IsAcknowledged e → IsLeft i deck e c → IsAcknowledged c
+left_acknowledged law i deck e c kept (inl same) n said = subst (λ f. HoldsSome f n) (sym same.0) (kept n (subst (λ t. Acknowledges t n) same.1 said))
+left_acknowledged law i deck e c kept (inr (fresh, few, inl (empty, same))) n said = inl (none_acknowledged e few kept n (subst (λ t. Acknowledges t n) same said))
+left_acknowledged law i deck e c kept (inr (fresh, few, inr (r, asks, (k, first)))) n said =
+    let most : n ≤ k = law r.design r.source r.vectors e c k first (none_acknowledged e few kept) n said in
+    let count : length (take k r.vectors) ≡ k = length-take-le k r.vectors first.most in
+    inr (r.design, r.source, 4096, take k r.vectors, first.sound.held, subst (λ m. n ≤ m) (sym count) most)
+
+pub acknowledged_left : SaidIsHeld → (i : Inputs) (deck : Device) → Leaves deck.before deck.after (From deck.before.may_leave (IsLeft i deck)) →
+    ((c : Outcome) → deck.before.left_since deck.before.moment c → deck.before.may_leave c) → KeepsAcknowledged deck
+acknowledged_left law i deck leaves only kept c left = by_left (leaves.nothing_else deck.before.moment c (omega arith) left)
+  where
+    by_left : deck.before.left_since deck.before.moment c ⊎ From deck.before.may_leave (IsLeft i deck) c → IsAcknowledged c
+    by_left (inl was) = kept c (only c was)
+    by_left (inr (e, may, is)) = left_acknowledged law i deck e c (kept e may) is

@@ -9,7 +9,7 @@ use Rattle.vod_design.specs.Vectors.{IsLawful}
 use Rattle.vod_log.specs.Format.{committed, counts_of}
 use Rattle.vod_log.specs.Opened.{records_of, IsWrongAt}
 use Rattle.vod_thin_script.specs.Script.{IsScript, IsRefused}
-use Rattle.vod_thin_code.specs.Held.{IsSound, IsEmpty, said}
+use Rattle.vod_thin_code.specs.Held.{IsHeld, IsSound, IsEmpty, Acknowledges, said}
 use Rattle.vod_thin_store.specs.Stored.{HasSaid, Adds}
 use Rattle.vod_thin_replay.specs.Range.{range_of, first_image}
 use Rattle.vod_thin_replay.specs.Replay.{HoldsSource, IsHeadDamagedAt, IsDamagedAt}
@@ -126,7 +126,7 @@ DumpAnswers i out (Err failed.Memory) = (out.after ≡ out.before) ⊎ AsksFor i
 abbrev pub IsFresh : Device → Type 0
 IsFresh deck = length deck.before.bytes ≤ 1
 
--- all was recorded: whatever a stop leaves, the log is sound and holds the source and the vectors, and behind the longest
+-- all was recorded: whatever a crash leaves, the log is sound and holds the source and the vectors, and behind the longest
 -- text of before their acknowledgements were said
 pub record IsRecorded (deck : Device) (r : Request) : Type 0 where
   pub few : length r.vectors < 4096
@@ -209,9 +209,25 @@ CommandAnswers w Dump answer = DumpAnswers w.inputs w.output answer
 abbrev pub Answers : World → Result (Unit {0}) Fault → Type 0
 Answers w answer = (HasNoCommand w × (answer ≡ Err failed.Usage)) ⊎ ((command : Command) × IsCommand w.words command × CommandAnswers w command answer)
 
--- what a stop during `record` leaves, from an outcome at entry: that outcome's file; or where the deck reads as one byte or
+-- what a crash during `record` leaves, from an outcome at entry: that outcome's file; or where the deck reads as one byte or
 -- none, an empty log, or the source and the first of the vectors, with the acknowledgements of no more than these said
 abbrev pub IsLeft : Inputs → Device → Outcome → Outcome → Type 0
 IsLeft i deck e c =
     ((c.file ≡ e.file) × (c.said ≡ e.said))
     ⊎ (IsFresh deck × (length e.file ≤ 1) × ((IsEmpty c.file × (c.said ≡ e.said)) ⊎ AsksFor i (λ r. Adds r.design r.source r.vectors e c)))
+
+-- the file as it reads afterwards is what a crash during the call may have left, with some text
+abbrev pub Reads : Inputs → Device → Type 0
+Reads i deck = (text : List ℕ) × From deck.before.may_leave (IsLeft i deck) (record { file = deck.after.bytes; said = text })
+
+-- a file is a log that holds so many vectors at least
+abbrev pub HoldsSome : List ℕ → ℕ → Type 0
+HoldsSome file n = (n ≡ 0) ⊎ ((d : Netlist) × (source : List ℕ) × (interval : ℕ) × (vs : List Vector) × IsHeld d source interval vs file × (n ≤ length vs))
+
+-- an outcome holds all vectors that its text acknowledges
+abbrev pub IsAcknowledged : Outcome → Type 0
+IsAcknowledged c = (n : ℕ) → Acknowledges c.said n → HoldsSome c.file n
+
+-- where it was so in each outcome at entry, each outcome since holds what it acknowledges
+abbrev pub KeepsAcknowledged : Device → Type 0
+KeepsAcknowledged deck = ((c : Outcome) → deck.before.may_leave c → IsAcknowledged c) → (c : Outcome) → deck.after.left_since deck.before.moment c → IsAcknowledged c

@@ -3,7 +3,7 @@ ghost use Rattle.std.specs.Prelude.{ℕ, ◌≡◌, ◌≤◌, ◌⊎◌, [], Ok
 ghost use Rattle.vod_io.specs.Told.{Told};
 ghost use Rattle.vod_deck.specs.Outcomes.{View, From, Leaves};
 ghost use Rattle.vod_log.specs.Tail.{IsUnchanged};
-ghost use Rattle.vod_program.specs.Answer.{World, Count, inputs_of, output_of, device_of, world_of, Answers, IsLeft};
+ghost use Rattle.vod_program.specs.Answer.{World, Count, inputs_of, output_of, device_of, world_of, Answers, IsLeft, Reads, KeepsAcknowledged};
 ghost use Rattle.vod_program.specs.Caused.{IsAnswered, IsSaid, MayWrite};
 ghost use Rattle.vod_program.specs.Command.{IsCommand};
 ghost use Rattle.vod_program.specs.Quiet.{Writes, ReadsInputs, UsesDeck};
@@ -24,6 +24,7 @@ use vod_thin::{one_design, one_place, plain_names};
 use vod_thin_code::one_head;
 use vod_thin_replay::sound_is_undamaged;
 use vod_thin_script::{one_reading, one_refusal};
+use vod_thin_store::said_is_held;
 
 /// The answer of the command that the words are.
 fn answer<D: Source, S: Source, L: Deck, K: Sink>(
@@ -107,6 +108,16 @@ pub fn vod<D: Source, S: Source, L: Deck, K: Sink, E: Sink>(
         (device_of L.tells (L.view deck.old) (L.view deck.new))
     in L.tells → Leaves world.device.before world.device.after (From world.device.before.may_leave (IsLeft world.inputs world.device)) }
 
+    // What the log's file reads as afterwards is what such a crash may have left.
+    ensures reads { let world : World = world_of (map string_bytes words.now)
+        (inputs_of (D.left design.old) (S.left input.old) (D.faults design.old) (D.faults design.new) (S.faults input.old) (S.faults input.new))
+        (output_of (K.taken out.old) (K.taken out.new) (K.faults out.old) (K.faults out.new))
+        (device_of L.tells (L.view deck.old) (L.view deck.new))
+    in L.tells → Reads world.inputs world.device }
+
+    // What is acknowledged is held, where it was so at entry.
+    ensures acknowledged { L.tells → KeepsAcknowledged (device_of L.tells (L.view deck.old) (L.view deck.new)) }
+
     ensures design_counted { D.faults design.old ≤ D.faults design.new }
     ensures input_counted { S.faults input.old ≤ S.faults input.new }
     ensures deck_counted { (L.view deck.old).faults ≤ (L.view deck.new).faults }
@@ -127,7 +138,12 @@ pub fn vod<D: Source, S: Source, L: Deck, K: Sink, E: Sink>(
     one_head();
     // No record of a sound log is damaged.
     sound_is_undamaged();
-    match answer(alloc, words, design, input, deck, out) {
+    // Where no more than the first k vectors are held, no more than k are acknowledged.
+    said_is_held();
+    let ended = answer(alloc, words, design, input, deck, out);
+    // The file as it reads is one that a crash now may leave.
+    deck.lives();
+    match ended {
         Ok(()) => Status::Ok,
         Err(fault) => report(fault, err),
     }

@@ -1,8 +1,9 @@
 use Rattle.std.proofs.Common.{map, string_bytes, ap, Err, Ok, inl, refl}
-use Rattle.vod_program.specs.Answer.{Count, World}
+use Rattle.vod_program.specs.Answer.{Count, Inputs, Device, World, inputs_of}
 use Rattle.vod_program.specs.declared.status.Status.TheVariants as status
 use Rattle.vod_program.proofs.SourceLaws.{OneAnswer, one_answer}
 use Rattle.vod_program.proofs.CausedLaws.{Held, answered, said, may_write}
+use Rattle.vod_program.proofs.RecordLaws.{reads_left, acknowledged_left}
 use Rattle.vod_program.proofs.top.vod.Goals as goal
 
 pub returns-in-Ok-clause-answered : goal.returns-in-Ok-clause-answered
@@ -48,3 +49,27 @@ pub returns-in-Err-clause-quiet : goal.returns-in-Err-clause-quiet
 returns-in-Err-clause-quiet g c =
     let err : Count = record { before = g.E.Sink.faults c.args.err.now; after = g.E.Sink.faults c.report.new.err } in
     λ none. c.in-Err.ensures.quiet (λ w. none (may_write c.in-Err.fault err c.report.result c.report.ensures.caused w))
+
+pub returns-in-Ok-clause-reads : goal.returns-in-Ok-clause-reads
+returns-in-Ok-clause-reads g c =
+    let deck : Device = record { told = g.L.Deck.tells; before = g.L.Deck.view c.args.deck.now; after = g.L.Deck.view c.answer.new.deck } in
+    let i : Inputs = inputs_of (g.D.Source.left c.args.design.now) (g.S.Source.left c.args.input.now) (g.D.Source.faults c.args.design.now) (g.D.Source.faults c.answer.new.design) (g.S.Source.faults c.args.input.now) (g.S.Source.faults c.answer.new.input) in
+    λ told. reads_left i deck (c.answer.ensures.stops told) (λ t o. g.met.L.Deck.counts_now c.answer.new.deck t o) (λ o. g.met.L.Deck.only_now c.args.deck.now o) (c.lives.ensures told)
+
+pub returns-in-Err-clause-reads : goal.returns-in-Err-clause-reads
+returns-in-Err-clause-reads g c =
+    let deck : Device = record { told = g.L.Deck.tells; before = g.L.Deck.view c.args.deck.now; after = g.L.Deck.view c.answer.new.deck } in
+    let i : Inputs = inputs_of (g.D.Source.left c.args.design.now) (g.S.Source.left c.args.input.now) (g.D.Source.faults c.args.design.now) (g.D.Source.faults c.answer.new.design) (g.S.Source.faults c.args.input.now) (g.S.Source.faults c.answer.new.input) in
+    λ told. reads_left i deck (c.answer.ensures.stops told) (λ t o. g.met.L.Deck.counts_now c.answer.new.deck t o) (λ o. g.met.L.Deck.only_now c.args.deck.now o) (c.lives.ensures told)
+
+pub returns-in-Ok-clause-acknowledged : goal.returns-in-Ok-clause-acknowledged
+returns-in-Ok-clause-acknowledged g c =
+    let deck : Device = record { told = g.L.Deck.tells; before = g.L.Deck.view c.args.deck.now; after = g.L.Deck.view c.answer.new.deck } in
+    let i : Inputs = inputs_of (g.D.Source.left c.args.design.now) (g.S.Source.left c.args.input.now) (g.D.Source.faults c.args.design.now) (g.D.Source.faults c.answer.new.design) (g.S.Source.faults c.args.input.now) (g.S.Source.faults c.answer.new.input) in
+    λ told. acknowledged_left c.said_is_held.ensures i deck (c.answer.ensures.stops told) (λ o. g.met.L.Deck.only_now c.args.deck.now o)
+
+pub returns-in-Err-clause-acknowledged : goal.returns-in-Err-clause-acknowledged
+returns-in-Err-clause-acknowledged g c =
+    let deck : Device = record { told = g.L.Deck.tells; before = g.L.Deck.view c.args.deck.now; after = g.L.Deck.view c.answer.new.deck } in
+    let i : Inputs = inputs_of (g.D.Source.left c.args.design.now) (g.S.Source.left c.args.input.now) (g.D.Source.faults c.args.design.now) (g.D.Source.faults c.answer.new.design) (g.S.Source.faults c.args.input.now) (g.S.Source.faults c.answer.new.input) in
+    λ told. acknowledged_left c.said_is_held.ensures i deck (c.answer.ensures.stops told) (λ o. g.met.L.Deck.only_now c.args.deck.now o)
