@@ -2,7 +2,7 @@ use Rattle.std.proofs.Common.{◌+◌, drop, ap, sym, subst, ◌∙◌}
 use Rattle.vod_expr.specs.Grammar.{lexemes}
 use Rattle.vod_expr.specs.Reading.{Reads, answered}
 use Rattle.vod_expr.proofs.Taken.{Answers, answers_by}
-use Rattle.vod_expr.proofs.read.read_from.Goals as goal
+use Rattle.vod_expr.proofs.read.read_by.Goals as goal
 
 pub returns : goal.returns
 returns c =
