@@ -14,7 +14,7 @@ use vod_io::{Failed, Memory};
 
 /// The memory that a deck takes at once: for the bytes of all writes together, for all texts
 /// together, and for the calls that write, sync or say.
-#[derive(Clone, Copy, Debug)]
+#[derive(Clone, Copy)]
 pub struct Room {
     pub bytes: usize,
     pub said: usize,
@@ -22,7 +22,7 @@ pub struct Room {
 }
 
 // A call that did something, `held` where it didn't fail.
-#[derive(Clone, Copy, Debug)]
+#[derive(Clone, Copy)]
 enum Call {
     Wrote { at: u64, count: usize, held: bool },
     Synced { held: bool },
@@ -30,7 +30,7 @@ enum Call {
 }
 
 /// What a stop leaves: the bytes of the file, and the text that was said.
-#[derive(Debug, Drop)]
+#[derive(Drop)]
 pub struct Outcome {
     pub bytes: Vec<u8>,
     pub said: Vec<u8>,
@@ -38,7 +38,7 @@ pub struct Outcome {
 
 /// A deck in memory. It tells what it holds, fails at the calls that it was given and past its room,
 /// and stops after a number of calls.
-#[derive(Debug, Drop)]
+#[derive(Drop)]
 pub struct MemDeck {
     first: Vec<u8>,
     bytes: Vec<u8>,

@@ -8,7 +8,7 @@ use std::alloc::Global;
 use std::marker::Model;
 
 /// A source of bytes in memory. It tells what is left, and fails at the calls that it was given.
-#[derive(Debug, Drop)]
+#[derive(Drop)]
 pub struct MemSource {
     bytes: Vec<u8>,
     // How many bytes were read.
@@ -81,7 +81,7 @@ impl Source for MemSource {
 
 /// A sink of bytes in memory. It tells what was taken, and fails at the calls that it was given and
 /// where a piece doesn't fit whole into the room that is left.
-#[derive(Debug, Drop)]
+#[derive(Drop)]
 pub struct MemSink {
     bytes: Vec<u8>,
     room: usize,

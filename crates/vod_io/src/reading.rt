@@ -4,6 +4,7 @@ ghost use Rattle.vod_io.specs.Faults.{HasCause, Rose};
 
 use crate::Failed;
 use std::alloc::{AllocError, Global};
+use std::fmt;
 
 /// What bytes are read from.
 pub trait Source {
@@ -24,7 +25,7 @@ pub trait Source {
 }
 
 /// What `fill` read.
-#[derive(Debug, Drop)]
+#[derive(Drop)]
 pub struct Filled {
     /// The bytes up to the limit.
     pub bytes: Vec<u8>,
@@ -39,6 +40,15 @@ pub enum FillFault {
     Read,
     /// There was no memory.
     Memory,
+}
+
+impl fmt::Display for FillFault {
+    fn fmt<W: fmt::Write>(&self, f: &mut fmt::Formatter<W>) -> fmt::Result {
+        match self {
+            FillFault::Read => write!(f, "the file or stream could not be read"),
+            FillFault::Memory => write!(f, "out of memory"),
+        }
+    }
 }
 
 impl From<Failed> for FillFault {

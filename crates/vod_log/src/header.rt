@@ -4,7 +4,7 @@ ghost use Rattle.vod_log.specs.Format.{number_at, kind_of, same_kind, known_of, 
 use vod_io::MAX_TIME;
 
 /// What a record is. The numbers are those of its bytes.
-#[derive(Clone, Copy, Debug, PartialEq, Eq)]
+#[derive(Clone, Copy, PartialEq, Eq)]
 pub enum Kind {
     Head = 1,
     Batch = 2,
@@ -12,7 +12,7 @@ pub enum Kind {
 }
 
 /// The header of a record. Counts are of vectors, and times are ticks.
-#[derive(Clone, Copy, Debug, PartialEq, Eq)]
+#[derive(Clone, Copy, PartialEq, Eq)]
 pub struct Header {
     pub kind: Kind,
     /// How many bytes the payload has.
@@ -28,7 +28,7 @@ pub struct Header {
 }
 
 /// What a log holds: its vectors, the last time, and the time since when every input is known.
-#[derive(Clone, Copy, Debug, PartialEq, Eq)]
+#[derive(Clone, Copy, PartialEq, Eq)]
 pub struct Counts {
     pub vectors: u64,
     pub last: u64,

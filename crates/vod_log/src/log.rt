@@ -10,12 +10,13 @@ use crate::reading::{is_empty, read_log};
 use crate::tail::write_gate;
 use crate::{Counts, Header, Tail};
 use std::alloc::{AllocError, AllocFailed, Global};
+use std::fmt;
 use std::marker::Model;
 use vod_deck::Deck;
 use vod_io::Failed;
 
 /// A record of a log: the place of its gate, and its header.
-#[derive(Clone, Copy, Debug, PartialEq, Eq)]
+#[derive(Clone, Copy, PartialEq, Eq)]
 pub struct Record {
     pub at: u64,
     pub header: Header,
@@ -30,6 +31,19 @@ pub enum LogFault {
     NotALog(u64),
     /// There was no memory.
     Memory,
+}
+
+impl fmt::Display for LogFault {
+    fn fmt<W: fmt::Write>(&self, f: &mut fmt::Formatter<W>) -> fmt::Result {
+        match self {
+            LogFault::Deck => write!(f, "the file of the log failed"),
+            LogFault::NotALog(at) => write!(
+                f,
+                "no log: the record behind byte {at} of the file is wrong"
+            ),
+            LogFault::Memory => write!(f, "out of memory"),
+        }
+    }
 }
 
 impl From<Failed> for LogFault {
@@ -57,7 +71,7 @@ impl<T: Drop> From<AllocFailed<T>> for LogFault {
 }
 
 /// A log that was opened.
-#[derive(Debug, Drop)]
+#[derive(Drop)]
 pub struct Log {
     records: Vec<Record>,
     gate: u64,

@@ -11,7 +11,7 @@ use std::marker::Model;
 use vod_deck::Deck;
 
 /// A buffer that is seen as its bytes.
-#[derive(Debug, Drop)]
+#[derive(Drop)]
 pub struct Bytes {
     bytes: Vec<u8>,
 }

@@ -8,6 +8,7 @@ ghost use Rattle.vod_log.specs.declared.tail.AppendFault.TheVariants.{Deck as De
 
 use crate::Header;
 use crate::header::{fields, follows, read_header};
+use std::fmt;
 use std::marker::Model;
 use vod_deck::Deck;
 use vod_io::Failed;
@@ -21,8 +22,20 @@ pub enum AppendFault {
     Broken,
 }
 
+impl fmt::Display for AppendFault {
+    fn fmt<W: fmt::Write>(&self, f: &mut fmt::Formatter<W>) -> fmt::Result {
+        match self {
+            AppendFault::Deck => write!(
+                f,
+                "the file of the log failed: open the log again to see what it holds"
+            ),
+            AppendFault::Broken => write!(f, "an earlier append failed: open the log again"),
+        }
+    }
+}
+
 /// The end of a log, where records are appended.
-#[derive(Debug, Drop)]
+#[derive(Drop)]
 pub struct Tail {
     gate: u64,
     last: Option<Header>,
