@@ -41,7 +41,7 @@ pub struct Callee {
 #[derive(Drop)]
 pub enum Declared {
     Vector(Vector),
-    Memory(WordArray),
+    Ram(WordArray),
     Function(Callee),
 }
 

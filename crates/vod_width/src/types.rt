@@ -1,6 +1,7 @@
 //! What `constant` answers, and why it and `size` refuse.
 use std::alloc::AllocError;
-use vod_bits::Bits;
+use std::fmt;
+use vod_bits::{Bits, WIDTH};
 
 /// The value of a constant expression, and whether it is signed.
 #[derive(Clone, Copy)]
@@ -18,6 +19,23 @@ pub enum WidthFault {
     Width { place: u32 },
     /// Memory ran out.
     Memory,
+}
+
+impl fmt::Display for WidthFault {
+    fn fmt<W: fmt::Write>(&self, f: &mut fmt::Formatter<W>) -> fmt::Result {
+        match self {
+            WidthFault::Rule { place } => {
+                write!(
+                    f,
+                    "the part at byte {place} has to be a constant, with a value that may stand there"
+                )
+            }
+            WidthFault::Width { place } => {
+                write!(f, "the part at byte {place} is wider than {WIDTH} bits")
+            }
+            WidthFault::Memory => f.write_str("memory ran out"),
+        }
+    }
 }
 
 impl From<AllocError> for WidthFault {
