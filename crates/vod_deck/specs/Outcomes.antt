@@ -1,12 +1,12 @@
--- What callers see of a deck: the bytes as a read gives them, and what a stop may leave.
+-- What callers see of a deck: the bytes as a read gives them, and what a crash may leave.
 use Rattle.std.specs.Prelude.{◌≡◌, ℕ, ◌+◌, ◌-◌, ◌^◌, ◌≤◌, min, max, ◌⊎◌, List, ◌++◌, length, take, drop, Result, MatchResult}
 
--- what a stop leaves: the bytes of the file, and the text that was said
+-- what a crash leaves: the bytes of the file, and the text that was said
 pub record Outcome : Type 0 where
   pub file : List ℕ
   pub said : List ℕ
 
--- a deck: the bytes as a read gives them, the outcomes of a stop now, the moment, the outcomes of a stop at some moment from one on, and the counts of faults and of bytes read
+-- a deck: the bytes as a read gives them, the outcomes of a crash now, the moment, the outcomes of a crash at some moment from one on, and the counts of faults and of bytes read
 pub record View : Type 1 where
   pub bytes : List ℕ
   pub may_leave : Outcome → Type 0
@@ -72,7 +72,7 @@ pub record SameOutcomes (old new : View) : Type 0 where
   pub left_since : (t : ℕ) (c : Outcome) → new.left_since t c → old.left_since t c
   pub still_left_since : (t : ℕ) (c : Outcome) → old.left_since t c → new.left_since t c
 
--- what a stop since an earlier moment may leave is what it was, or has P
+-- what a crash since an earlier moment may leave is what it was, or has P
 pub record Leaves (old new : View) (P : Outcome → Type 0) : Type 0 where
   pub later : old.moment ≤ new.moment
   pub nothing_else : (t : ℕ) (c : Outcome) → t ≤ old.moment → new.left_since t c → old.left_since t c ⊎ P c

@@ -29,7 +29,7 @@ enum Call {
     Said { count: usize, held: bool },
 }
 
-/// What a stop leaves: the bytes of the file, and the text that was said.
+/// What a crash leaves: the bytes of the file, and the text that was said.
 #[derive(Drop)]
 pub struct Outcome {
     pub bytes: Vec<u8>,
@@ -155,14 +155,14 @@ impl MemDeck {
         self.bytes.as_slice()
     }
 
-    /// The shortest text that a stop may leave.
+    /// The shortest text that a crash may leave.
     pub fn said(&self) -> &[u8]
         ensures { result.now ≡ sure_text (disk_of self.now) }
     {
         &self.texts[..self.sure]
     }
 
-    /// What a stop may leave. The writes since the last sync are numbered from 0, failed ones too:
+    /// What a crash may leave. The writes since the last sync are numbered from 0, failed ones too:
     /// write i is kept whole where bit `i % 32` of the pick is 0, and else its first half where bit
     /// `32 + i % 32` is 1, and nothing of it where that bit is 0. The text is the shortest one.
     pub fn outcome(&self, alloc: Global, pick: u64) -> Result<Outcome, Memory>

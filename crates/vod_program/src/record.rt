@@ -23,7 +23,7 @@ fn open_fresh<L: Deck>(alloc: Global, deck: &mut L) -> Result<Tail, Fault>
     ensures created { IfOk result (λ tail. L.tells → (L.view deck.new).bytes ≡ 0 ∷ []) }
     ensures settled { IfOk result (λ tail. L.tells → IsSettled (L.view deck.new) tail.gate tail.last) }
     ensures not_empty { (at : ℕ) → result ≡ Err (Fault.NotYet part.Log at) → L.tells → (at ≡ length (L.view deck.old).bytes) × (1 < at) }
-    ensures stops { L.tells → Leaves (L.view deck.old) (L.view deck.new) (From (L.view deck.old).may_leave (Opens (L.view deck.old).bytes)) }
+    ensures crashes { L.tells → Leaves (L.view deck.old) (L.view deck.new) (From (L.view deck.old).may_leave (Opens (L.view deck.old).bytes)) }
     ensures faults { IfErr result (λ fault. (fault ≡ Fault.Deck) ⊎ (fault ≡ Fault.Memory) ⊎ ((at : ℕ) × (fault ≡ Fault.NotYet part.Log at))) }
     ensures later { (L.view deck.old).faults ≤ (L.view deck.new).faults }
     ensures caused { result ≡ Err Fault.Deck → Rose (L.view deck.old).faults (L.view deck.new).faults }
@@ -49,7 +49,7 @@ pub fn record<D: Source, S: Source, L: Deck>(
     deck: &mut L,
 ) -> Result<(), Fault>
     ensures answers { let inputs : Inputs = inputs_of (D.left design.old) (S.left input.old) (D.faults design.old) (D.faults design.new) (S.faults input.old) (S.faults input.new) in let device : Device = device_of L.tells (L.view deck.old) (L.view deck.new) in RecordAnswers inputs device result }
-    ensures stops { let inputs : Inputs = inputs_of (D.left design.old) (S.left input.old) (D.faults design.old) (D.faults design.new) (S.faults input.old) (S.faults input.new) in let device : Device = device_of L.tells (L.view deck.old) (L.view deck.new) in
+    ensures crashes { let inputs : Inputs = inputs_of (D.left design.old) (S.left input.old) (D.faults design.old) (D.faults design.new) (S.faults input.old) (S.faults input.new) in let device : Device = device_of L.tells (L.view deck.old) (L.view deck.new) in
         L.tells → Leaves (L.view deck.old) (L.view deck.new) (From (L.view deck.old).may_leave (IsLeft inputs device)) }
     ensures no_script { (place : ℕ) → result ≡ Err (Fault.NotYet part.Design place) → (input.new ≡ input.old) × (deck.new ≡ deck.old) }
     ensures end { result ≡ Ok tt → Told (S.left input.new) [] }

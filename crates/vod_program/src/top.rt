@@ -47,7 +47,7 @@ fn answer<D: Source, S: Source, L: Deck, K: Sink>(
     ensures unchanged { L.tells → (window : span.Window) → IsCommand (map string_bytes words.now) (command.Window window) → IsUnchanged (L.view deck.old) (L.view deck.new) }
     ensures no_script { (place : ℕ) → result ≡ Err (Fault.NotYet part.Design place) → (input.new ≡ input.old) × (deck.new ≡ deck.old) }
     ensures ended { result ≡ Ok tt → (command : Command) → IsCommand (map string_bytes words.now) command → ReadsInputs command → Told (S.left input.new) [] }
-    ensures stops { let world : World = world_of (map string_bytes words.now)
+    ensures crashes { let world : World = world_of (map string_bytes words.now)
         (inputs_of (D.left design.old) (S.left input.old) (D.faults design.old) (D.faults design.new) (S.faults input.old) (S.faults input.new))
         (output_of (K.taken out.old) (K.taken out.new) (K.faults out.old) (K.faults out.new))
         (device_of L.tells (L.view deck.old) (L.view deck.new))
@@ -102,7 +102,7 @@ pub fn vod<D: Source, S: Source, L: Deck, K: Sink, E: Sink>(
     ensures no_script { (place : ℕ) → result ≡ Status.NotYet part.Design place → (input.new ≡ input.old) × (deck.new ≡ deck.old) }
 
     // A crash at any moment of the call leaves what one at entry left, or a sound log of the source and the first vectors.
-    ensures stops { let world : World = world_of (map string_bytes words.now)
+    ensures crashes { let world : World = world_of (map string_bytes words.now)
         (inputs_of (D.left design.old) (S.left input.old) (D.faults design.old) (D.faults design.new) (S.faults input.old) (S.faults input.new))
         (output_of (K.taken out.old) (K.taken out.new) (K.faults out.old) (K.faults out.new))
         (device_of L.tells (L.view deck.old) (L.view deck.new))

@@ -27,7 +27,7 @@ returns-in-Ok-record-clause-answers g c =
     let lawful : IsLawful d vs = subst (λ e. IsLawful e vs) c.in-Ok-recordable_of.ensures.design c.vectors-vectors.ensures.lawful in
     let tail = c.in_ok-tail.ensures in
     let begins : g.L.Deck.tells → (m : Outcome) → mid.may_leave m → (m.file ≡ 0 ∷ []) × IsCreated old m =
-    λ told. begun_with old mid (tail.stops told) (λ t o. g.met.L.Deck.counts_now c.open_fresh.new.deck t o) (λ o. g.met.L.Deck.only_now c.args.deck.now o) (tail.settled told).lasts (tail.created told) in
+    λ told. begun_with old mid (tail.crashes told) (λ t o. g.met.L.Deck.counts_now c.open_fresh.new.deck t o) (λ o. g.met.L.Deck.only_now c.args.deck.now o) (tail.settled told).lasts (tail.created told) in
     let done = c.in-Ok-record.ensures in
     asked i (IsRecorded deck) source d vs read.told read.source c.in-Ok-recordable_of.ensures.vectors lawful (record {
       few = c.in-Ok-recordable_of.ensures.few;
@@ -37,8 +37,8 @@ returns-in-Ok-record-clause-answers g c =
       says = λ told o may. said_behind old mid (said vs) o (λ m left. (begins told m left).1) (subst (λ us. From mid.may_leave (HasSaid (said us)) o) c.vectors-vectors.ensures.items (done.said told o may));
     })
 
-pub returns-in-Ok-record-clause-stops : goal.returns-in-Ok-record-clause-stops
-returns-in-Ok-record-clause-stops g c =
+pub returns-in-Ok-record-clause-crashes : goal.returns-in-Ok-record-clause-crashes
+returns-in-Ok-record-clause-crashes g c =
     let i : Inputs = record {
       source = g.D.Source.left c.args.design.now;
       script = g.S.Source.left c.args.input.now;
@@ -56,14 +56,14 @@ returns-in-Ok-record-clause-stops g c =
     let lawful : IsLawful d vs = subst (λ e. IsLawful e vs) c.in-Ok-recordable_of.ensures.design c.vectors-vectors.ensures.lawful in
     let tail = c.in_ok-tail.ensures in
     let begins : g.L.Deck.tells → (m : Outcome) → mid.may_leave m → (m.file ≡ 0 ∷ []) × IsCreated old m =
-    λ told. begun_with old mid (tail.stops told) (λ t o. g.met.L.Deck.counts_now c.open_fresh.new.deck t o) (λ o. g.met.L.Deck.only_now c.args.deck.now o) (tail.settled told).lasts (tail.created told) in
+    λ told. begun_with old mid (tail.crashes told) (λ t o. g.met.L.Deck.counts_now c.open_fresh.new.deck t o) (λ o. g.met.L.Deck.only_now c.args.deck.now o) (tail.settled told).lasts (tail.created told) in
     λ told. record_left i deck mid (request source d vs) (tail.fresh told).0
     (λ P p. asked i P source d vs read.told read.source c.in-Ok-recordable_of.ensures.vectors lawful p)
-    (tail.stops told) (begins told)
-    (same_request (λ r. Leaves mid new (From mid.may_leave (Records r.design r.source r.vectors))) _ source d _ vs c.as_slice-source.ensures.value c.vectors-vectors.ensures.items (c.record.ensures.stops told))
+    (tail.crashes told) (begins told)
+    (same_request (λ r. Leaves mid new (From mid.may_leave (Records r.design r.source r.vectors))) _ source d _ vs c.as_slice-source.ensures.value c.vectors-vectors.ensures.items (c.record.ensures.crashes told))
 
-pub returns-clause-stops : goal.returns-clause-stops
-returns-clause-stops g c =
+pub returns-clause-crashes : goal.returns-clause-crashes
+returns-clause-crashes g c =
     let i : Inputs = record {
       source = g.D.Source.left c.args.design.now;
       script = g.S.Source.left c.args.input.now;
@@ -81,8 +81,8 @@ returns-clause-stops g c =
     let lawful : IsLawful d vs = subst (λ e. IsLawful e vs) c.in-Ok-recordable_of.ensures.design c.vectors-vectors.ensures.lawful in
     let tail = c.in_ok-tail.ensures in
     let begins : g.L.Deck.tells → (m : Outcome) → mid.may_leave m → (m.file ≡ 0 ∷ []) × IsCreated old m =
-    λ told. begun_with old mid (tail.stops told) (λ t o. g.met.L.Deck.counts_now c.open_fresh.new.deck t o) (λ o. g.met.L.Deck.only_now c.args.deck.now o) (tail.settled told).lasts (tail.created told) in
+    λ told. begun_with old mid (tail.crashes told) (λ t o. g.met.L.Deck.counts_now c.open_fresh.new.deck t o) (λ o. g.met.L.Deck.only_now c.args.deck.now o) (tail.settled told).lasts (tail.created told) in
     λ told. record_left i deck mid (request source d vs) (tail.fresh told).0
     (λ P p. asked i P source d vs read.told read.source c.in-Ok-recordable_of.ensures.vectors lawful p)
-    (tail.stops told) (begins told)
-    (same_request (λ r. Leaves mid new (From mid.may_leave (Records r.design r.source r.vectors))) _ source d _ vs c.as_slice-source.ensures.value c.vectors-vectors.ensures.items (c.record.ensures.stops told))
+    (tail.crashes told) (begins told)
+    (same_request (λ r. Leaves mid new (From mid.may_leave (Records r.design r.source r.vectors))) _ source d _ vs c.as_slice-source.ensures.value c.vectors-vectors.ensures.items (c.record.ensures.crashes told))

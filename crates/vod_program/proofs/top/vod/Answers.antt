@@ -54,22 +54,22 @@ pub returns-in-Ok-clause-reads : goal.returns-in-Ok-clause-reads
 returns-in-Ok-clause-reads g c =
     let deck : Device = record { told = g.L.Deck.tells; before = g.L.Deck.view c.args.deck.now; after = g.L.Deck.view c.answer.new.deck } in
     let i : Inputs = inputs_of (g.D.Source.left c.args.design.now) (g.S.Source.left c.args.input.now) (g.D.Source.faults c.args.design.now) (g.D.Source.faults c.answer.new.design) (g.S.Source.faults c.args.input.now) (g.S.Source.faults c.answer.new.input) in
-    λ told. reads_left i deck (c.answer.ensures.stops told) (λ t o. g.met.L.Deck.counts_now c.answer.new.deck t o) (λ o. g.met.L.Deck.only_now c.args.deck.now o) (c.lives.ensures told)
+    λ told. reads_left i deck (c.answer.ensures.crashes told) (λ t o. g.met.L.Deck.counts_now c.answer.new.deck t o) (λ o. g.met.L.Deck.only_now c.args.deck.now o) (c.lives.ensures told)
 
 pub returns-in-Err-clause-reads : goal.returns-in-Err-clause-reads
 returns-in-Err-clause-reads g c =
     let deck : Device = record { told = g.L.Deck.tells; before = g.L.Deck.view c.args.deck.now; after = g.L.Deck.view c.answer.new.deck } in
     let i : Inputs = inputs_of (g.D.Source.left c.args.design.now) (g.S.Source.left c.args.input.now) (g.D.Source.faults c.args.design.now) (g.D.Source.faults c.answer.new.design) (g.S.Source.faults c.args.input.now) (g.S.Source.faults c.answer.new.input) in
-    λ told. reads_left i deck (c.answer.ensures.stops told) (λ t o. g.met.L.Deck.counts_now c.answer.new.deck t o) (λ o. g.met.L.Deck.only_now c.args.deck.now o) (c.lives.ensures told)
+    λ told. reads_left i deck (c.answer.ensures.crashes told) (λ t o. g.met.L.Deck.counts_now c.answer.new.deck t o) (λ o. g.met.L.Deck.only_now c.args.deck.now o) (c.lives.ensures told)
 
 pub returns-in-Ok-clause-acknowledged : goal.returns-in-Ok-clause-acknowledged
 returns-in-Ok-clause-acknowledged g c =
     let deck : Device = record { told = g.L.Deck.tells; before = g.L.Deck.view c.args.deck.now; after = g.L.Deck.view c.answer.new.deck } in
     let i : Inputs = inputs_of (g.D.Source.left c.args.design.now) (g.S.Source.left c.args.input.now) (g.D.Source.faults c.args.design.now) (g.D.Source.faults c.answer.new.design) (g.S.Source.faults c.args.input.now) (g.S.Source.faults c.answer.new.input) in
-    λ told. acknowledged_left c.said_is_held.ensures i deck (c.answer.ensures.stops told) (λ o. g.met.L.Deck.only_now c.args.deck.now o)
+    λ told. acknowledged_left c.said_is_held.ensures i deck (c.answer.ensures.crashes told) (λ o. g.met.L.Deck.only_now c.args.deck.now o)
 
 pub returns-in-Err-clause-acknowledged : goal.returns-in-Err-clause-acknowledged
 returns-in-Err-clause-acknowledged g c =
     let deck : Device = record { told = g.L.Deck.tells; before = g.L.Deck.view c.args.deck.now; after = g.L.Deck.view c.answer.new.deck } in
     let i : Inputs = inputs_of (g.D.Source.left c.args.design.now) (g.S.Source.left c.args.input.now) (g.D.Source.faults c.args.design.now) (g.D.Source.faults c.answer.new.design) (g.S.Source.faults c.args.input.now) (g.S.Source.faults c.answer.new.input) in
-    λ told. acknowledged_left c.said_is_held.ensures i deck (c.answer.ensures.stops told) (λ o. g.met.L.Deck.only_now c.args.deck.now o)
+    λ told. acknowledged_left c.said_is_held.ensures i deck (c.answer.ensures.crashes told) (λ o. g.met.L.Deck.only_now c.args.deck.now o)

@@ -1,4 +1,4 @@
--- What a stop may leave while a record is appended.
+-- What a crash may leave while a record is appended.
 use Rattle.std.proofs.Common.{ℕ, ◌+◌, inl, List, length, ◌∙◌, subst}
 use Rattle.std.specs.Prelude.{Option}
 use Rattle.vod_deck.specs.Outcomes.{View, Holds, Torn, Writes, From, Only, Elapses, Leaves}
@@ -10,8 +10,8 @@ use Rattle.vod_log.proofs.Appends.{torn-record, torn-gate}
 
 module _ (old mid : View) (gate : ℕ) (last : Option Header) (frame : List ℕ) (is : IsSettled old gate last) (first : Elapses old mid (Writes (gate + 1) (length frame))) where
   -- the record is written
-  pub stops-record : Leaves old mid (From old.may_leave (HoldsEither (committed old.bytes) (appended (committed old.bytes) gate frame)))
-  stops-record =
+  pub crashes-record : Leaves old mid (From old.may_leave (HoldsEither (committed old.bytes) (appended (committed old.bytes) gate frame)))
+  crashes-record =
       leaves-call old old mid (From old.may_leave (HoldsEither (committed old.bytes) (appended (committed old.bytes) gate frame))) (Writes (gate + 1) (length frame))
       (leaves-none old (From old.may_leave (HoldsEither (committed old.bytes) (appended (committed old.bytes) gate frame)))) first
       (λ c from.
@@ -20,10 +20,10 @@ module _ (old mid : View) (gate : ℕ) (last : Option Header) (frame : List ℕ)
       (from.0, from.1, record { file = inl (torn-record old.bytes c.file gate (length frame) last is.ends torn); said = from.2.said }))
 
   -- and then the gate is opened
-  pub stops-gate : (new : View) → Continues last frame → Holds old.bytes (gate + 1) frame mid.bytes → Only mid.bytes mid.may_leave → Elapses mid new (Writes gate 1) →
+  pub crashes-gate : (new : View) → Continues last frame → Holds old.bytes (gate + 1) frame mid.bytes → Only mid.bytes mid.may_leave → Elapses mid new (Writes gate 1) →
       Leaves old new (From old.may_leave (HoldsEither (committed old.bytes) (appended (committed old.bytes) gate frame)))
-  stops-gate new goes_on held lasts second =
-      leaves-call old mid new (From old.may_leave (HoldsEither (committed old.bytes) (appended (committed old.bytes) gate frame))) (Writes gate 1) stops-record second
+  crashes-gate new goes_on held lasts second =
+      leaves-call old mid new (From old.may_leave (HoldsEither (committed old.bytes) (appended (committed old.bytes) gate frame))) (Writes gate 1) crashes-record second
       (λ c from.
       let before : From old.may_leave (Writes (gate + 1) (length frame)) from.0 = first.outcomes from.0 from.1 in
       let P : List ℕ → Type 0 = λ f. Torn gate 1 f c.file in
