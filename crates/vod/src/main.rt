@@ -1,22 +1,12 @@
 //! vod, VCD on demand: the waveform of one window of a simulation, when it is asked for.
 #![tactic(auto)]
 
-mod command;
-mod dump;
-mod phase;
-mod record;
-mod status;
-mod stops;
-mod top;
-mod window;
-
-use crate::status::{Status, Stop, report};
-use crate::top::vod;
 use std::alloc::{AllocError, Global};
 use std::process::ExitCode;
 use std::{env, io};
 use vod_deck::FileDeck;
 use vod_io::{FileSource, StdSink, StdSource};
+use vod_program::{Fault, Status, report, vod};
 
 /// The words behind the program's name; none where one isn't UTF-8.
 fn words(rt: HostRuntime) -> Result<Vec<String>, AllocError> {
@@ -59,7 +49,7 @@ fn execute(rt: HostRuntime) -> Result<Status, AllocError> {
 fn main(rt: HostRuntime) -> ExitCode {
     let status = match execute(rt) {
         Ok(status) => status,
-        Err(AllocError) => report(Stop::Memory, &mut StdSink::new(rt, true)),
+        Err(AllocError) => report(Fault::Memory, &mut StdSink::new(rt, true)),
     };
     ExitCode::from(status.code())
 }

@@ -19,7 +19,7 @@ pub const WIDTH: u8 = 64;
 pub type Word = u64;
 
 /// A known value: `width` bits, from 1 to `WIDTH`, and the number that they stand for, below 2^width.
-#[derive(Clone, Copy, Debug)]
+#[derive(Clone, Copy)]
 pub struct Bits {
     pub width: u8,
     pub word: Word,

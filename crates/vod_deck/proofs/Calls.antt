@@ -2,8 +2,8 @@
 use Rattle.std.proofs.Common.{◌≡◌, ℕ, ◌≤◌, List, [], ◌∷◌, ◌++◌, length, take, refl, sym, ◌∙◌, ap, subst, arith, append_assoc, length-append}
 use Rattle.std.specs.Prelude.{Bool, true, false}
 use Rattle.std.proofs.lemmas.List.{take_all, append-nil}
-use Rattle.vod_deck.specs.Outcomes.{Outcome, Writes, Stays, SaysAll, Says, From, Only, Elapses}
-use Rattle.vod_deck.specs.InMemory.{Piece, Event, Disk, IsDisk, IsMemory, IsOutcome, laid, after, run, fresh, events_of, stop_view}
+use Rattle.vod_deck.specs.Outcomes.{Outcome, Writes, Stays, SaysAll, Says, From, Only, Elapses, IsLive}
+use Rattle.vod_deck.specs.InMemory.{Piece, Event, Disk, IsDisk, IsMemory, IsOutcome, IsTorn, laid, after, run, fresh, events_of, stop_view}
 use Rattle.vod_deck.specs.InMemory.Event.{Write, Sync, Give, Sure}
 use Rattle.vod_deck.specs.declared.in_memory.Call.{Call}
 use Rattle.vod_deck.specs.declared.in_memory.Call.TheVariants.{Wrote, Synced, Said}
@@ -180,3 +180,10 @@ module _ (first bytes wrote texts : List ℕ) (calls : List Call) (sure : ℕ) (
       ap (λ x. run (fresh first) x) (history-say text) ∙ run-last (fresh first) (events_of wrote texts calls ++ Give text ∷ []) Sure
       ∙ ap (λ d. after d Sure) (run-last (fresh first) (events_of wrote texts calls) (Give text)) in
       outcome-said now text is.disk.within c (subst Q at_end left)
+
+  -- the file as a read gives it is one of the outcomes, with all the text
+  pub live-memory : (faults bytes_read : ℕ) → IsLive (stop_view first (events_of wrote texts calls) bytes faults bytes_read)
+  live-memory faults bytes_read =
+      let P : List ℕ → Type 0 = λ f. IsTorn now.writes now.file f in
+      let all : now.given ≡ take (length now.given) now.given = sym (take_all (length now.given) now.given (omega arith)) in
+      (now.given, record { file = subst P (sym is.disk.reads) is.disk.torn; said = (length now.given, is.disk.within, all) })

@@ -1,4 +1,4 @@
--- Files that are written, and files that a stop tears.
+-- Files that are written, and files that a crash tears.
 use Rattle.std.proofs.Common.{◌≡◌, ℕ, ◌+◌, ◌-◌, ◌≤◌, ◌<◌, ◌⊎◌, inl, inr, List, [], ◌∷◌, ◌++◌, length, take, drop, get_or, max, min, refl, sym, ◌∙◌, ap, subst, arith, length-append, length-take, length-drop}
 use Rattle.std.specs.Prelude.{replicate, Bool, true, false, ◌/◌, ◌%◌}
 use Rattle.std.proofs.lemmas.List.{length-replicate, drop_all, take_at, append-nil, get_or_append_left, get_or-append_right, get_or-replicate, get_or-take, get_or-drop, get_or_past, ext_get_or}

@@ -1,4 +1,4 @@
--- What a stop since an earlier moment may leave, over several calls.
+-- What a crash since an earlier moment may leave, over several calls.
 use Rattle.std.proofs.Common.{inl, inr, arith}
 use Rattle.vod_deck.specs.Outcomes.{Outcome, View, From, Elapses, SameOutcomes, Leaves}
 

@@ -1,4 +1,4 @@
--- A deck in memory: what its calls did, and what a stop may leave of it.
+-- A deck in memory: what its calls did, and what a crash may leave of it.
 use Rattle.std.specs.Prelude.{◌≡◌, ℕ, ◌+◌, ◌-◌, ◌/◌, ◌%◌, ◌^◌, ◌≤◌, ◌<◌, ◌==◌, ◌⊎◌, max, Bool, true, false, if◌then◌else◌, List, [], ◌∷◌, ◌++◌, length, take, drop, replicate, Option, None, Some}
 use Rattle.vod_deck.specs.Outcomes.{Outcome, View, Torn}
 use Rattle.vod_io.specs.InMemory.{counted}
@@ -59,12 +59,12 @@ IsTorn (w ∷ ws) old new = (mid : List ℕ) × IsTorn ws old mid × Torn w.at (
 abbrev pub IsFront : Disk → List ℕ → Type 0
 IsFront d said = (n : ℕ) × (d.sure ≤ n) × (said ≡ take n d.given)
 
--- what a stop may leave of a disk
+-- what a crash may leave of a disk
 pub record IsOutcome (d : Disk) (c : Outcome) : Type 0 where
   pub file : IsTorn d.writes d.file c.file
   pub said : IsFront d c.said
 
--- what a stop at the t-th event or later may have left
+-- what a crash at the t-th event or later may have left
 abbrev pub LeftSince : List ℕ → List Event → ℕ → Outcome → Type 0
 LeftSince first events t c = (k : ℕ) × (t ≤ k) × (k ≤ length events) × IsOutcome (run (fresh first) (take k events)) c
 
@@ -158,7 +158,7 @@ spent v = record v { made = counted v.made }
 abbrev pub faulted : MemView → MemView
 faulted v = record v { made = counted v.made; faults = counted v.faults }
 
--- the shortest text that a stop may leave
+-- the shortest text that a crash may leave
 abbrev pub sure_text : Disk → List ℕ
 sure_text d = take d.sure d.given
 

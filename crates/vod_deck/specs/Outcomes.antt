@@ -1,12 +1,12 @@
--- What callers see of a deck: the bytes as a read gives them, and what a stop may leave.
+-- What callers see of a deck: the bytes as a read gives them, and what a crash may leave.
 use Rattle.std.specs.Prelude.{◌≡◌, ℕ, ◌+◌, ◌-◌, ◌^◌, ◌≤◌, min, max, ◌⊎◌, List, ◌++◌, length, take, drop, Result, MatchResult}
 
--- what a stop leaves: the bytes of the file, and the text that was said
+-- what a crash leaves: the bytes of the file, and the text that was said
 pub record Outcome : Type 0 where
   pub file : List ℕ
   pub said : List ℕ
 
--- a deck: the bytes as a read gives them, the outcomes of a stop now, the moment, the outcomes of a stop at some moment from one on, and the counts of faults and of bytes read
+-- a deck: the bytes as a read gives them, the outcomes of a crash now, the moment, the outcomes of a crash at some moment from one on, and the counts of faults and of bytes read
 pub record View : Type 1 where
   pub bytes : List ℕ
   pub may_leave : Outcome → Type 0
@@ -72,7 +72,7 @@ pub record SameOutcomes (old new : View) : Type 0 where
   pub left_since : (t : ℕ) (c : Outcome) → new.left_since t c → old.left_since t c
   pub still_left_since : (t : ℕ) (c : Outcome) → old.left_since t c → new.left_since t c
 
--- what a stop since an earlier moment may leave is what it was, or has P
+-- what a crash since an earlier moment may leave is what it was, or has P
 pub record Leaves (old new : View) (P : Outcome → Type 0) : Type 0 where
   pub later : old.moment ≤ new.moment
   pub nothing_else : (t : ℕ) (c : Outcome) → t ≤ old.moment → new.left_since t c → old.left_since t c ⊎ P c
@@ -88,3 +88,7 @@ IsRead before now n result = MatchResult result (λ _. now ≡ capped (before + 
 -- after a text was said, each outcome has it behind the longest text from before
 abbrev pub IsSaid : View → View → List ℕ → Type 0
 IsSaid old new text = (c : Outcome) → new.may_leave c → From old.may_leave (SaysAll old.may_leave text) c
+
+-- the file as a read gives it is one that a crash now may leave, with some text
+abbrev pub IsLive : View → Type 0
+IsLive v = (said : List ℕ) × v.may_leave (record { file = v.bytes; said = said })

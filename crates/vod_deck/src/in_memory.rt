@@ -1,6 +1,6 @@
 ghost use Rattle.std.specs.Prelude.{◌≡◌, ℕ, ◌+◌, ◌-◌, ◌^◌, ◌≤◌, ◌<◌, ◌↔◌, ◌⊎◌, [], ◌∷◌, ◌++◌, length, take, drop, max, min, true, false, Contains, IfOk, OnOk, OnErr, IsErr, IsTrue, vec_len, vec_capacity};
 ghost use Rattle.vod_io.specs.Faults.{HasCause};
-ghost use Rattle.vod_deck.specs.Outcomes.{Holds, Torn, Writes, Stays, Says, IsSaid, Only, Elapses, SameOutcomes, IsRead, capped};
+ghost use Rattle.vod_deck.specs.Outcomes.{Holds, Torn, Writes, Stays, Says, IsSaid, Only, Elapses, SameOutcomes, IsRead, IsLive, capped};
 ghost use Rattle.vod_deck.specs.Moments.{told-counts_now, told-only_now};
 ghost use Rattle.vod_deck.specs.InMemory.{laid, picked, told, spent, faulted, disk_of, sure_text, IsStopped, RefusesWrite, RefusesSync, RefusesText};
 
@@ -29,7 +29,7 @@ enum Call {
     Said { count: usize, held: bool },
 }
 
-/// What a stop leaves: the bytes of the file, and the text that was said.
+/// What a crash leaves: the bytes of the file, and the text that was said.
 #[derive(Drop)]
 pub struct Outcome {
     pub bytes: Vec<u8>,
@@ -155,14 +155,14 @@ impl MemDeck {
         self.bytes.as_slice()
     }
 
-    /// The shortest text that a stop may leave.
+    /// The shortest text that a crash may leave.
     pub fn said(&self) -> &[u8]
         ensures { result.now ≡ sure_text (disk_of self.now) }
     {
         &self.texts[..self.sure]
     }
 
-    /// What a stop may leave. The writes since the last sync are numbered from 0, failed ones too:
+    /// What a crash may leave. The writes since the last sync are numbered from 0, failed ones too:
     /// write i is kept whole where bit `i % 32` of the pick is 0, and else its first half where bit
     /// `32 + i % 32` is 1, and nothing of it where that bit is 0. The text is the shortest one.
     pub fn outcome(&self, alloc: Global, pick: u64) -> Result<Outcome, Memory>
@@ -421,5 +421,11 @@ impl Deck for MemDeck {
         note(&mut self.calls, Call::Said { count, held: true });
         self.sure = self.texts.len();
         Ok(())
+    }
+
+    fn lives(&self)
+        ensures { IsLive (told self.now) }
+    {
+        let _ = &self.bytes;
     }
 }

@@ -1,4 +1,4 @@
-//! Decks: a file beside a stream of said text on one clock, and what a stop at any moment may leave
+//! Decks: a file beside a stream of said text on one clock, and what a crash at any moment may leave
 //! of them.
 #![tactic(auto)]
 

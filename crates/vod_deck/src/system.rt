@@ -200,4 +200,6 @@ impl<R: Files + Print> Deck for FileDeck<R> {
             }
         }
     }
+
+    fn lives(&self) {}
 }

@@ -43,7 +43,7 @@ pub data AreVariables : List Lexeme → VariableDeclaration → Type 0 where
 -- value, or a memory: NAME range (4.9)
 pub data IsRegister : List Lexeme → Register → Type 0 where
   value : {ts : List Lexeme} {x : Value} → IsValue ts x → IsRegister ts (register.Value x)
-  memory : {t : Lexeme} {ts : List Lexeme} {r : Range} → IsName t → IsRange ts r → IsRegister (t ∷ ts) (register.Memory (ident_of t) r)
+  ram : {t : Lexeme} {ts : List Lexeme} {r : Range} → IsName t → IsRange ts r → IsRegister (t ∷ ts) (register.Ram (ident_of t) r)
 
 -- [ "signed" ] [ range ] register { "," register } ";"
 pub data AreRegisters : List Lexeme → RegDeclaration → Type 0 where

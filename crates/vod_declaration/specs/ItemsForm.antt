@@ -25,7 +25,7 @@ variables = typed (λ s r. listed (variables_of s r) value_form)
 
 -- a register or a memory
 abbrev pub register_form : Form Register
-register_form = then name_form (λ n. either word.OpenBracket (λ at. mapped (λ r. register.Memory n r) (bounds at)) (mapped (λ x. register.Value x) (valued n)))
+register_form = then name_form (λ n. either word.OpenBracket (λ at. mapped (λ r. register.Ram n r) (bounds at)) (mapped (λ x. register.Value x) (valued n)))
 
 abbrev pub registers : Form RegDeclaration
 registers = typed (λ s r. listed (registers_of s r) register_form)

@@ -16,7 +16,7 @@ use Rattle.vod_grammar.specs.Words.{Is, is_word, are_same}
 use Rattle.vod_grammar.specs.declared.word.Word.{Word}
 use Rattle.vod_grammar.specs.declared.word.Word.TheVariants as word
 use Rattle.vod_declaration.specs.FlatLaws.{Flat, name_flat, mapped_flat, then_flat, either_flat, behind_flat, flag_flat, listed_flat}
-use Rattle.vod_declaration.specs.Items.{AreNets, AreVariables, IsRegister, AreRegisters, IsDeclaration, nets_of, variables_of, registers_of, nets, variables, value, memory, registers, input, output, output_reg, wire, reg, integer, parameter, localparam}
+use Rattle.vod_declaration.specs.Items.{AreNets, AreVariables, IsRegister, AreRegisters, IsDeclaration, nets_of, variables_of, registers_of, nets, variables, value, ram, registers, input, output, output_reg, wire, reg, integer, parameter, localparam}
 use Rattle.vod_declaration.specs.ItemsForm.{nets as nets_form, variables as variables_form, register_form, registers as registers_form, input_item, output_item, wire_item, reg_item, integer_item, parameter_item, localparam_item, declaration_form, starts_declaration}
 use Rattle.vod_declaration.specs.ParametersForm.{parameters}
 use Rattle.vod_declaration.specs.ParametersLaws.{parameters_are, of_parameters, parameters_flat}
@@ -57,9 +57,9 @@ of_variables before m _ _ b (variables {semicolon = semicolon} {ts = ts} {us = u
 
 -- registers and memories
 register_is : (t : Lexeme) → IsName t → (m : Sight) (ts : List Lexeme) (y : Register) (b : Option Lexeme)
-    → (either word.OpenBracket (λ at. mapped (λ r. register.Memory (ident_of t) r) (bounds at)) (mapped (λ x. register.Value x) (valued (ident_of t)))).phrase m ts y b → IsRegister (t ∷ ts) y
+    → (either word.OpenBracket (λ at. mapped (λ r. register.Ram (ident_of t) r) (bounds at)) (mapped (λ x. register.Value x) (valued (ident_of t)))).phrase m ts y b → IsRegister (t ∷ ts) y
 register_is t h m _ y b (led {t = opener} {ts = ts} o q) =
-    part_end (λ r. register.Memory (ident_of t) r) (bounds opener.place) (λ v z. IsRegister (t ∷ opener ∷ v) z) m b (λ v r p. memory h (bounds_are opener o m v r b p)) ts y q
+    part_end (λ r. register.Ram (ident_of t) r) (bounds opener.place) (λ v z. IsRegister (t ∷ opener ∷ v) z) m b (λ v r p. ram h (bounds_are opener o m v r b p)) ts y q
 register_is t h m ts y b (unled n q) = part_end (λ x. register.Value x) (valued (ident_of t)) (λ v z. IsRegister (t ∷ v) z) m b (λ v x p. value (valued_is t h m v x b p)) ts y q
 
 register_are : Are register_form IsRegister
@@ -69,12 +69,12 @@ of_register : ReadBefore → Of register_form IsRegister Ends
 of_register before m _ _ b e (value (plain h)) = in_turn (a_name h) (unled (λ k. e.bracket) (changed (unled (λ k. e.equals) no_token)))
 of_register before m _ _ b e (value (initial {equals = equals} {ts = ts} {a = a} h k d)) =
     in_turn (a_name h) (unled (λ z. is_word-other word.OpenBracket word.Equals equals k) (changed (led k (changed (e.read m ts a d)))))
-of_register before m _ _ b e (memory {t = t} {ts = ts} {r = r} h d) =
-    range_from before (λ v z. register_form.phrase m (t ∷ v) (register.Memory (ident_of t) z) b) (λ opener v z o p. in_turn (a_name h) (led o (changed (p m b)))) ts r d
+of_register before m _ _ b e (ram {t = t} {ts = ts} {r = r} h d) =
+    range_from before (λ v z. register_form.phrase m (t ∷ v) (register.Ram (ident_of t) z) b) (λ opener v z o p. in_turn (a_name h) (led o (changed (p m b)))) ts r d
 
 register_unworded : Unworded IsRegister
 register_unworded w ts _ (value {x = x} d) = value_unworded w ts x d
-register_unworded w _ _ (memory {t = t} h d) = λ b. is_word-name w t h
+register_unworded w _ _ (ram {t = t} h d) = λ b. is_word-name w t h
 
 registers_are : Are registers_form AreRegisters
 registers_are m ts y b q = typed_list_end registers_of register_form IsRegister register_are AreRegisters m b (λ us vs ws l s r xs d e g h. registers d e g h) ts y q
@@ -155,9 +155,9 @@ variables_flat le = typed_list_flat variables_of value_form le (value_flat le)
 
 register_flat : Flat expression_form → Flat register_form
 register_flat le =
-    then_flat name_form (λ n. either word.OpenBracket (λ at. mapped (λ r. register.Memory n r) (bounds at)) (mapped (λ x. register.Value x) (valued n))) name_flat
-    (λ n. either_flat word.OpenBracket (λ at. mapped (λ r. register.Memory n r) (bounds at)) (mapped (λ x. register.Value x) (valued n))
-    (λ at. mapped_flat (λ r. register.Memory n r) (bounds at) (bounds_flat le at)) (mapped_flat (λ x. register.Value x) (valued n) (valued_flat le n)))
+    then_flat name_form (λ n. either word.OpenBracket (λ at. mapped (λ r. register.Ram n r) (bounds at)) (mapped (λ x. register.Value x) (valued n))) name_flat
+    (λ n. either_flat word.OpenBracket (λ at. mapped (λ r. register.Ram n r) (bounds at)) (mapped (λ x. register.Value x) (valued n))
+    (λ at. mapped_flat (λ r. register.Ram n r) (bounds at) (bounds_flat le at)) (mapped_flat (λ x. register.Value x) (valued n) (valued_flat le n)))
 
 registers_flat : Flat expression_form → Flat registers_form
 registers_flat le = typed_list_flat registers_of register_form le (register_flat le)

@@ -1,9 +1,14 @@
 -- How ranges are read.
 use Rattle.std.specs.Prelude.{ℕ, Bool, Option, None, Some}
 use Rattle.vod_tree.specs.declared.declaration.Range.{Range}
+use Rattle.vod_tree.specs.declared.expr.Expr.{Expr}
 use Rattle.vod_grammar.specs.Form.{Form, word_form, expression_form, give, then, mapped, either, flag}
 use Rattle.vod_grammar.specs.declared.word.Word.TheVariants as word
 use Rattle.vod_declaration.specs.Ranges.{range}
+
+-- behind the first bound: `: expr ]`, as the code reads it
+abbrev pub upper : Form Expr
+upper = then (word_form word.Colon) (λ _. then expression_form (λ b. mapped (λ _. b) (word_form word.CloseBracket)))
 
 -- behind `[`: `expr : expr ]`
 abbrev pub bounds : ℕ → Form Range

@@ -4,12 +4,12 @@ ghost use Rattle.vod_grammar.specs.Read.{first, passes, repeat};
 ghost use Rattle.vod_grammar.specs.State.{left, Gives, GivesAs, IsOfSource};
 ghost use Rattle.vod_declaration.specs.FunctionsForm.{first_input, function_declaration, function_declarations, function_input, function_inputs, function_port, function_variables, inputs, starts_function_declaration};
 
-use crate::lists::enclosed;
+use crate::lists::{enclosed, listed_names};
 use crate::ranges::range;
 use sqlite_items::Items;
 use vod_expr::ParseFault;
-use vod_grammar::{Phrase, Reader, Word, names};
-use vod_tree::{FunctionDeclaration, FunctionInput, FunctionPort, FunctionVariables};
+use vod_grammar::{Phrase, Reader, Word};
+use vod_tree::{FunctionDeclaration, FunctionInput, FunctionPort, FunctionVariables, let_go};
 
 /// The inputs of a function's header where `(` comes next, and nothing elsewhere.
 pub fn function_inputs(
@@ -79,13 +79,18 @@ fn function_port(reader: Reader<'_>, at: &mut usize, place: u32) -> Result<Funct
 {
     let signed = reader.flag(at, Word::Signed);
     let range = range(reader, at)?;
-    let name = reader.name(at)?;
-    Ok(FunctionPort {
-        place,
-        signed,
-        range,
-        name,
-    })
+    match reader.name(at) {
+        Ok(name) => Ok(FunctionPort {
+            place,
+            signed,
+            range,
+            name,
+        }),
+        Err(fault) => {
+            let_go(range);
+            Err(fault)
+        }
+    }
 }
 
 /// The inputs and locals that a function declares, while `input` or `reg` comes next.
@@ -153,12 +158,16 @@ fn variables(
 {
     let signed = reader.flag(at, Word::Signed);
     let range = range(reader, at)?;
-    let names = names(reader, at)?;
-    reader.word(at, Word::Semicolon)?;
-    Ok(FunctionVariables {
-        place,
-        signed,
-        range,
-        names,
-    })
+    match listed_names(reader, at) {
+        Ok(names) => Ok(FunctionVariables {
+            place,
+            signed,
+            range,
+            names,
+        }),
+        Err(fault) => {
+            let_go(range);
+            Err(fault)
+        }
+    }
 }

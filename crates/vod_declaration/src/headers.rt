@@ -7,7 +7,7 @@ use crate::ranges::range;
 use sqlite_items::Items;
 use vod_expr::ParseFault;
 use vod_grammar::{Phrase, Reader, Word, names};
-use vod_tree::{DeclaredPort, Ident, NetPort, Ports, RegPort, Setting, Value};
+use vod_tree::{DeclaredPort, Ident, NetPort, Ports, RegPort, Setting, Value, let_go};
 
 /// Behind the name and the parameters of a module: nothing, `( )`, names, or ports with their directions.
 pub fn ports(reader: Reader<'_>, at: &mut usize) -> Result<Ports, ParseFault>
@@ -21,8 +21,13 @@ pub fn ports(reader: Reader<'_>, at: &mut usize) -> Result<Ports, ParseFault>
         return Ok(Ports::Empty);
     }
     let ports = some_ports(reader, at)?;
-    reader.word(at, Word::CloseParen)?;
-    Ok(ports)
+    match reader.word(at, Word::CloseParen) {
+        Ok(_) => Ok(ports),
+        Err(fault) => {
+            let_go(ports);
+            Err(fault)
+        }
+    }
 }
 
 fn some_ports(reader: Reader<'_>, at: &mut usize) -> Result<Ports, ParseFault>
@@ -136,14 +141,19 @@ fn net_port(reader: Reader<'_>, at: &mut usize, place: u32) -> Result<NetPort, P
     let wire = reader.flag(at, Word::Wire);
     let signed = reader.flag(at, Word::Signed);
     let range = range(reader, at)?;
-    let name = reader.name(at)?;
-    Ok(NetPort {
-        place,
-        wire,
-        signed,
-        range,
-        name,
-    })
+    match reader.name(at) {
+        Ok(name) => Ok(NetPort {
+            place,
+            wire,
+            signed,
+            range,
+            name,
+        }),
+        Err(fault) => {
+            let_go(range);
+            Err(fault)
+        }
+    }
 }
 
 // Behind `output reg`.
@@ -153,13 +163,18 @@ fn reg_port(reader: Reader<'_>, at: &mut usize, place: u32) -> Result<RegPort, P
 {
     let signed = reader.flag(at, Word::Signed);
     let range = range(reader, at)?;
-    let value = value(reader, at)?;
-    Ok(RegPort {
-        place,
-        signed,
-        range,
-        value,
-    })
+    match value(reader, at) {
+        Ok(value) => Ok(RegPort {
+            place,
+            signed,
+            range,
+            value,
+        }),
+        Err(fault) => {
+            let_go(range);
+            Err(fault)
+        }
+    }
 }
 
 fn value(reader: Reader<'_>, at: &mut usize) -> Result<Value, ParseFault>

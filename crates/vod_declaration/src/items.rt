@@ -5,11 +5,12 @@ ghost use Rattle.vod_grammar.specs.State.{left, Gives, IsOfSource};
 ghost use Rattle.vod_declaration.specs.ItemsForm.{declaration_form, input_item, integer_item, localparam_item, nets, output_item, parameter_item, reg_item, register_form, registers, starts_declaration, variables, wire_item};
 
 use crate::headers::{ValuePhrase, valued};
+use crate::lists::{listed, listed_names};
 use crate::parameters::parameters;
 use crate::ranges::{bounds, range};
 use vod_expr::ParseFault;
-use vod_grammar::{Phrase, Reader, Word, names, separated};
-use vod_tree::{ItemKind, NetDeclaration, RegDeclaration, Register, VariableDeclaration};
+use vod_grammar::{Phrase, Reader, Word};
+use vod_tree::{ItemKind, NetDeclaration, RegDeclaration, Register, VariableDeclaration, let_go};
 
 /// Whether a token comes next that begins a declaration.
 #[tactic(auto, using(crate::proofs::Starts::declaration_next))]
@@ -98,8 +99,7 @@ fn integer_item(reader: Reader<'_>, at: &mut usize) -> Result<ItemKind, ParseFau
     requires { IsOfSource reader }
     ensures { Gives result (left reader.entry at.new) (integer_item.read (left reader.entry at.old)) }
 {
-    let names = names(reader, at)?;
-    reader.word(at, Word::Semicolon)?;
+    let names = listed_names(reader, at)?;
     Ok(ItemKind::Integer(names))
 }
 
@@ -128,14 +128,18 @@ fn nets(reader: Reader<'_>, at: &mut usize) -> Result<NetDeclaration, ParseFault
     let wire = reader.flag(at, Word::Wire);
     let signed = reader.flag(at, Word::Signed);
     let range = range(reader, at)?;
-    let names = names(reader, at)?;
-    reader.word(at, Word::Semicolon)?;
-    Ok(NetDeclaration {
-        wire,
-        signed,
-        range,
-        names,
-    })
+    match listed_names(reader, at) {
+        Ok(names) => Ok(NetDeclaration {
+            wire,
+            signed,
+            range,
+            names,
+        }),
+        Err(fault) => {
+            let_go(range);
+            Err(fault)
+        }
+    }
 }
 
 fn variables(reader: Reader<'_>, at: &mut usize) -> Result<VariableDeclaration, ParseFault>
@@ -144,13 +148,17 @@ fn variables(reader: Reader<'_>, at: &mut usize) -> Result<VariableDeclaration, 
 {
     let signed = reader.flag(at, Word::Signed);
     let range = range(reader, at)?;
-    let values = separated::<ValuePhrase>(reader, at)?;
-    reader.word(at, Word::Semicolon)?;
-    Ok(VariableDeclaration {
-        signed,
-        range,
-        values,
-    })
+    match listed::<ValuePhrase>(reader, at) {
+        Ok(values) => Ok(VariableDeclaration {
+            signed,
+            range,
+            values,
+        }),
+        Err(fault) => {
+            let_go(range);
+            Err(fault)
+        }
+    }
 }
 
 fn registers(reader: Reader<'_>, at: &mut usize) -> Result<RegDeclaration, ParseFault>
@@ -159,13 +167,17 @@ fn registers(reader: Reader<'_>, at: &mut usize) -> Result<RegDeclaration, Parse
 {
     let signed = reader.flag(at, Word::Signed);
     let range = range(reader, at)?;
-    let registers = separated::<RegisterPhrase>(reader, at)?;
-    reader.word(at, Word::Semicolon)?;
-    Ok(RegDeclaration {
-        signed,
-        range,
-        registers,
-    })
+    match listed::<RegisterPhrase>(reader, at) {
+        Ok(registers) => Ok(RegDeclaration {
+            signed,
+            range,
+            registers,
+        }),
+        Err(fault) => {
+            let_go(range);
+            Err(fault)
+        }
+    }
 }
 
 // A register, with a value or without one, or a memory.
@@ -179,7 +191,7 @@ fn register(reader: Reader<'_>, at: &mut usize) -> Result<Register, ParseFault>
         return Ok(Register::Value(value));
     };
     let range = bounds(reader, at, place)?;
-    Ok(Register::Memory(name, range))
+    Ok(Register::Ram(name, range))
 }
 
 // A register or a memory.

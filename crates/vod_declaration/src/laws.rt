@@ -36,6 +36,7 @@ pub fn ranges_are_exact()
         passes (is_word OpenBracket) b ≡ false → IsOptional IsRange ts x → range_form.phrase m ts x b }
     ensures shallow { Shallow range_form }
 {
+    // Words, names and expressions are read exactly, of which the form is made.
     phrases_are_exact();
 }
 
@@ -47,6 +48,7 @@ pub fn parameters_are_exact()
     ensures parameters { (m : Sight) (ts : List Lexeme) (x : List ParameterPort) (b : Option Lexeme) → AreParameterPorts ts x → parameter_ports.phrase m ts x b }
     ensures shallow { Shallow parameter_ports }
 {
+    // Words, names and expressions are read exactly, of which the form is made.
     phrases_are_exact();
 }
 
@@ -59,6 +61,7 @@ pub fn ports_are_exact()
         passes (is_word OpenParen) b ≡ false → IsPortList ts x → port_list.phrase m ts x b }
     ensures shallow { Shallow port_list }
 {
+    // Words, names and expressions are read exactly, of which the form is made.
     phrases_are_exact();
 }
 
@@ -71,6 +74,7 @@ pub fn declarations_are_exact()
     ensures starts { (ts : List Lexeme) (x : ItemKind) → IsDeclaration ts x → passes starts_declaration (first ts None) ≡ true }
     ensures shallow { Shallow declaration_form }
 {
+    // Words, names and expressions are read exactly, of which the form is made.
     phrases_are_exact();
 }
 
@@ -88,5 +92,6 @@ pub fn function_headers_are_exact()
         passes starts_function_declaration b ≡ false → AreFunctionDeclarations ts x → function_declarations.phrase m ts x b }
     ensures shallow { Shallow function_declarations }
 {
+    // Words, names and expressions are read exactly, of which the form is made.
     phrases_are_exact();
 }

@@ -2,12 +2,14 @@
 ghost use Rattle.vod_grammar.specs.State.{left, Gives, IsOfSource};
 ghost use Rattle.vod_declaration.specs.ParametersForm.{first_parameter, parameter_port, parameter_ports, parameters, setting_form, type_form, typed_parameter};
 
-use crate::lists::enclosed;
+use crate::lists::{enclosed, listed};
 use crate::ranges::bounds;
 use sqlite_items::Items;
 use vod_expr::ParseFault;
-use vod_grammar::{Phrase, Reader, Word, separated};
-use vod_tree::{ParameterDeclaration, ParameterPort, ParameterType, Setting, TypedParameter};
+use vod_grammar::{Phrase, Reader, Word};
+use vod_tree::{
+    ParameterDeclaration, ParameterPort, ParameterType, Setting, TypedParameter, let_go,
+};
 
 /// Behind `#`: the parameters of a module's header, of which the first begins with `parameter`.
 pub fn parameter_ports(
@@ -68,12 +70,17 @@ fn typed_parameter(
     ensures { Gives result (left reader.entry at.new) ((typed_parameter place).read (left reader.entry at.old)) }
 {
     let kind = parameter_type(reader, at)?;
-    let setting = setting(reader, at)?;
-    Ok(TypedParameter {
-        place,
-        kind,
-        setting,
-    })
+    match setting(reader, at) {
+        Ok(setting) => Ok(TypedParameter {
+            place,
+            kind,
+            setting,
+        }),
+        Err(fault) => {
+            let_go(kind);
+            Err(fault)
+        }
+    }
 }
 
 // `signed` and a range, a range, or nothing.
@@ -137,7 +144,11 @@ pub(crate) fn parameters(
     ensures { Gives result (left reader.entry at.new) (parameters.read (left reader.entry at.old)) }
 {
     let kind = parameter_type(reader, at)?;
-    let settings = separated::<SettingPhrase>(reader, at)?;
-    reader.word(at, Word::Semicolon)?;
-    Ok(ParameterDeclaration { kind, settings })
+    match listed::<SettingPhrase>(reader, at) {
+        Ok(settings) => Ok(ParameterDeclaration { kind, settings }),
+        Err(fault) => {
+            let_go(kind);
+            Err(fault)
+        }
+    }
 }

@@ -15,7 +15,7 @@ use Rattle.vod_design.specs.Values.{Values, Frame, Operand, bounded, at_size, se
 use Rattle.vod_design.specs.Eval.{Calls, kind_bits, sized_operand, operand_of}
 use Rattle.vod_design.specs.declared.statement.Function.{Function}
 use Rattle.vod_design.specs.Run.{call_below, eval}
-use Rattle.vod_design.specs.Reads.{Read, Whole, Bits, Word, Memory, whole, bits, kind_reads, reads, Agree}
+use Rattle.vod_design.specs.Reads.{Read, Whole, Bits, Word, Ram, whole, bits, kind_reads, reads, Agree}
 
 abbrev Alike : Values → Values → List Read → Type 0
 Alike u v rs = AllByRecursion (Agree u v) rs
@@ -38,9 +38,9 @@ bits_same u v frame (named.Variable (Signal n)) low width h = h.0
 bits_same u v frame (named.Variable (Local n)) low width h = refl
 bits_same u v frame (named.Constant b) low width h = refl
 
-memory_same : (u v : Values) (memory : ℕ) (place : Option ℕ) → Agree u v (Memory memory) → word_at u memory place ≡ word_at v memory place
-memory_same u v memory None h = refl
-memory_same u v memory (Some p) h = h p
+ram_same : (u v : Values) (memory : ℕ) (place : Option ℕ) → Agree u v (Ram memory) → word_at u memory place ≡ word_at v memory place
+ram_same u v memory None h = refl
+ram_same u v memory (Some p) h = h p
 
 abbrev kind_reads_of : SizedKind → List Read
 kind_reads_of k = fold-SizedKind (List Read) (List Read) kind_reads (λ e. e.kind) k
@@ -93,7 +93,7 @@ layer_same calls u v frame (SizedKind-F.Index n least e) w s h =
 layer_same calls u v frame (SizedKind-F.Word memory place) w s h = ap (word_or_x (bounded w)) h.0
 layer_same calls u v frame (SizedKind-F.WordIndex memory least e) w s h =
     ap (λ (o : Operand). word_or_x (bounded w) (word_at u memory (index_place least o.bits))) (e.1 h.1)
-    ∙ ap (word_or_x (bounded w)) (memory_same u v memory (index_place least (operand_of calls v frame e.0).bits) h.0)
+    ∙ ap (word_or_x (bounded w)) (ram_same u v memory (index_place least (operand_of calls v frame e.0).bits) h.0)
 layer_same calls u v frame (SizedKind-F.Unary op a) w s h = let p = a.1 h in cc
 layer_same calls u v frame (SizedKind-F.Binary op a b) w s h = let p = a.1 (front u v (reads a.0) (reads b.0) h) in let q = b.1 (back u v (reads a.0) (reads b.0) h) in cc
 layer_same calls u v frame (SizedKind-F.Comparison op a b) w s h = let p = a.1 (front u v (reads a.0) (reads b.0) h) in let q = b.1 (back u v (reads a.0) (reads b.0) h) in cc

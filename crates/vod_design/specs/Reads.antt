@@ -15,7 +15,7 @@ pub data Read : Type 0 where
   Whole : ℕ → Read
   Bits : ℕ → ℕ → ℕ → Read
   Word : ℕ → ℕ → Read
-  Memory : ℕ → Read
+  Ram : ℕ → Read
 
 -- the whole value of what a name stands for, and bits of it
 abbrev pub whole : Named → List Read
@@ -35,7 +35,7 @@ kind_reads (SizedKind-F.Name name) = whole name
 kind_reads (SizedKind-F.Select name low width) = bits name low width
 kind_reads (SizedKind-F.Index name least index) = whole name ++ index
 kind_reads (SizedKind-F.Word memory place) = Word memory place ∷ []
-kind_reads (SizedKind-F.WordIndex memory least index) = Memory memory ∷ index
+kind_reads (SizedKind-F.WordIndex memory least index) = Ram memory ∷ index
 kind_reads (SizedKind-F.Unary op a) = a
 kind_reads (SizedKind-F.Binary op a b) = a ++ b
 kind_reads (SizedKind-F.Comparison op a b) = a ++ b
@@ -56,4 +56,4 @@ abbrev pub Agree : Values → Values → Read → Type 0
 Agree u v (Whole n) = u.signal n ≡ v.signal n
 Agree u v (Bits n low width) = select_bits low (bounded width) (u.signal n) ≡ select_bits low (bounded width) (v.signal n)
 Agree u v (Word memory place) = u.word memory place ≡ v.word memory place
-Agree u v (Memory memory) = (place : ℕ) → u.word memory place ≡ v.word memory place
+Agree u v (Ram memory) = (place : ℕ) → u.word memory place ≡ v.word memory place

@@ -10,21 +10,21 @@ use vod_bits::Bits;
 
 /// What holds a value: a signal of the design by its number, or an input, a local or the result of a function, by its place
 /// among these in this order (4.2, 10.4.1).
-#[derive(Clone, Copy, Debug)]
+#[derive(Clone, Copy)]
 pub enum Variable {
     Signal(u32),
     Local(u32),
 }
 
 /// What a name stands for.
-#[derive(Clone, Copy, Debug)]
+#[derive(Clone, Copy)]
 pub enum Named {
     Variable(Variable),
     Constant(Bits),
 }
 
 /// An operator on one operand that has the operator's own size (5.1.5, 5.1.10).
-#[derive(Clone, Copy, Debug, PartialEq, Eq)]
+#[derive(Clone, Copy, PartialEq, Eq)]
 pub enum UnaryOp {
     /// `-`
     Minus,
@@ -33,7 +33,7 @@ pub enum UnaryOp {
 }
 
 /// An operator on two operands that have the operator's own size (5.1.5, 5.1.10).
-#[derive(Clone, Copy, Debug, PartialEq, Eq)]
+#[derive(Clone, Copy, PartialEq, Eq)]
 pub enum BinaryOp {
     /// `+`
     Add,
@@ -52,7 +52,7 @@ pub enum BinaryOp {
 }
 
 /// A comparison of two operands, which take the larger size of the two (5.1.7, 5.1.8).
-#[derive(Clone, Copy, Debug, PartialEq, Eq)]
+#[derive(Clone, Copy, PartialEq, Eq)]
 pub enum ComparisonOp {
     /// `<`
     Less,
@@ -73,7 +73,7 @@ pub enum ComparisonOp {
 }
 
 /// An operator on truths (5.1.9).
-#[derive(Clone, Copy, Debug, PartialEq, Eq)]
+#[derive(Clone, Copy, PartialEq, Eq)]
 pub enum LogicalOp {
     /// `&&`
     And,
@@ -82,7 +82,7 @@ pub enum LogicalOp {
 }
 
 /// A reduction of all bits to one (5.1.11).
-#[derive(Clone, Copy, Debug, PartialEq, Eq)]
+#[derive(Clone, Copy, PartialEq, Eq)]
 pub enum ReductionOp {
     /// `&`
     And,
@@ -99,7 +99,7 @@ pub enum ReductionOp {
 }
 
 /// A shift (5.1.12).
-#[derive(Clone, Copy, Debug, PartialEq, Eq)]
+#[derive(Clone, Copy, PartialEq, Eq)]
 pub enum ShiftOp {
     /// `<<` and `<<<`
     Left,

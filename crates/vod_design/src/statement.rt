@@ -84,14 +84,14 @@ impl Body {
 }
 
 /// How wide a variable is, in bits, and whether it is signed.
-#[derive(Clone, Copy, Debug, PartialEq, Eq)]
+#[derive(Clone, Copy, PartialEq, Eq)]
 pub struct Size {
     pub width: u8,
     pub signed: bool,
 }
 
 /// The inputs or the locals of a function, which contracts see as the list of their sizes.
-#[derive(Debug, Drop)]
+#[derive(Drop)]
 pub struct Locals {
     sizes: Vec<Size>,
 }
@@ -134,14 +134,14 @@ pub struct Function {
 }
 
 /// A bit of a signal, by the signal's number and the bit's place from the lowest up.
-#[derive(Clone, Copy, Debug, PartialEq, Eq)]
+#[derive(Clone, Copy, PartialEq, Eq)]
 pub struct Place {
     pub signal: u32,
     pub bit: u8,
 }
 
 /// The target of a driver, which contracts see as the list of its bits, the upper one first.
-#[derive(Debug, Drop)]
+#[derive(Drop)]
 pub struct Places {
     bits: Vec<Place>,
 }

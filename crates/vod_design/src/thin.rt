@@ -8,7 +8,7 @@ use sqlite_items::Boxed;
 use std::marker::Model;
 
 /// A bit of a four-state value: 0, 1, x or z (IEEE 1364-2005, 4.1).
-#[derive(Clone, Copy, Debug, PartialEq, Eq)]
+#[derive(Clone, Copy, PartialEq, Eq)]
 pub enum Bit {
     Zero,
     One,
@@ -78,7 +78,7 @@ impl Bit {
 }
 
 /// A name of the source, as its bytes.
-#[derive(Debug, Drop)]
+#[derive(Drop)]
 pub struct Name {
     bytes: Vec<u8>,
 }
@@ -107,28 +107,28 @@ impl Name {
 }
 
 /// A signal of one bit: a net, or a register (IEEE 1364-2005, 4.2).
-#[derive(Debug, Drop)]
+#[derive(Drop)]
 pub struct Signal {
     pub name: Name,
     pub register: bool,
 }
 
 /// What an input is for: blocks wait for edges of clocks and read data.
-#[derive(Clone, Copy, Debug, PartialEq, Eq)]
+#[derive(Clone, Copy, PartialEq, Eq)]
 pub enum Class {
     Clock,
     Data,
 }
 
 /// An input: the number of its signal, and its class.
-#[derive(Clone, Copy, Debug)]
+#[derive(Clone, Copy)]
 pub struct Input {
     pub signal: u32,
     pub class: Class,
 }
 
 /// An expression over signals, by their numbers (IEEE 1364-2005, 5.1.10).
-#[derive(Debug, Drop)]
+#[derive(Drop)]
 pub enum Expr {
     Signal(u32),
     /// `~`
@@ -179,7 +179,7 @@ pub fn value_hangs_on_reads()
 {}
 
 /// A continuous assignment: the number of its target, and its right side (IEEE 1364-2005, 6.1).
-#[derive(Debug, Drop)]
+#[derive(Drop)]
 pub struct Driver {
     pub target: u32,
     pub value: Expr,
@@ -187,7 +187,7 @@ pub struct Driver {
 
 /// `always @(posedge clock) register <= value;` with the numbers of its signals
 /// (IEEE 1364-2005, 9.2.2 and 9.9.2).
-#[derive(Debug, Drop)]
+#[derive(Drop)]
 pub struct Block {
     pub clock: u32,
     pub register: u32,
@@ -195,7 +195,7 @@ pub struct Block {
 }
 
 /// The value that a register is declared with (IEEE 1364-2005, 6.2.1).
-#[derive(Clone, Copy, Debug)]
+#[derive(Clone, Copy)]
 pub struct Initial {
     pub register: u32,
     pub value: Bit,
@@ -204,7 +204,7 @@ pub struct Initial {
 /// The parts of a design: a module's name, its signals by declaration, its inputs in the order of
 /// the port list, its drivers and blocks by source order, and its registers' initial values by
 /// declaration.
-#[derive(Debug, Drop)]
+#[derive(Drop)]
 pub struct Parts {
     pub name: Name,
     pub signals: Vec<Signal>,
@@ -215,7 +215,7 @@ pub struct Parts {
 }
 
 /// An accepted design: parts that keep the rules.
-#[derive(Debug, Drop)]
+#[derive(Drop)]
 pub struct Design {
     parts: Parts,
 }
@@ -294,14 +294,14 @@ impl Design {
 }
 
 /// An assignment of an input, by its number among the inputs.
-#[derive(Clone, Copy, Debug)]
+#[derive(Clone, Copy)]
 pub struct Move {
     pub input: u32,
     pub value: Bit,
 }
 
 /// The assignments of a vector.
-#[derive(Debug, Drop)]
+#[derive(Drop)]
 pub struct Moves {
     moves: Vec<Move>,
 }
@@ -331,7 +331,7 @@ impl Moves {
 }
 
 /// A timed list of assignments, in units of the dump's precision.
-#[derive(Debug, Drop)]
+#[derive(Drop)]
 pub struct Vector {
     pub time: u64,
     pub moves: Moves,

@@ -21,6 +21,7 @@ pub fn directive_of(text: &[u8]) -> DirectiveKind
     requires { IsTokenText text.now TokenKind.Directive }
     ensures { StandsFor text.now result }
 {
+    // What the text of a directive stands for is the value of `directive_of`.
     directives_are_exact();
     meaning(text)
 }

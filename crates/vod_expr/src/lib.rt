@@ -13,6 +13,7 @@ ghost use Rattle.vod_expr.specs.declared.ParseFault.{ParseFault};
 
 pub use read::read_expr;
 use std::alloc::AllocError;
+use std::fmt;
 use vod_token::one_literal;
 
 /// Why tokens are no expression or no source.
@@ -38,10 +39,28 @@ impl From<AllocError> for ParseFault {
     }
 }
 
+impl fmt::Display for ParseFault {
+    fn fmt<W: fmt::Write>(&self, f: &mut fmt::Formatter<W>) -> fmt::Result {
+        match self {
+            ParseFault::At(place) => write!(f, "this token may not stand here: byte {}", place),
+            ParseFault::End => f.write_str("the source ends too early"),
+            ParseFault::Statement(place) => write!(
+                f,
+                "statements are nested deeper than 64 levels at byte {}",
+                place
+            ),
+            ParseFault::Memory => f.write_str("there was no memory"),
+        }
+    }
+}
+
+impl std::error::Error for ParseFault {}
+
 /// Tokens are an expression with one tree at most.
 pub fn one_tree()
     ensures { (ts : List Lexeme) (a b : Expr) → IsExpr 0 ts a → IsExpr 0 ts b → a ≡ b }
 {
+    // A number has one literal that it stands for.
     one_literal();
 }
 
@@ -55,6 +74,7 @@ pub fn one_longest()
 pub fn read_before()
     ensures { (ts us : List Lexeme) (t : Lexeme) (tree : Expr) → IsExpr 0 ts tree → EndsExpr t → IsRead (ts ++ t ∷ us) (length ts) tree }
 {
+    // A number has one literal that it stands for.
     one_literal();
 }
 
@@ -68,6 +88,7 @@ pub fn one_answer()
     ensures within { (ts : List Lexeme) → expr_len ts ≤ length ts }
     ensures some { (ts : List Lexeme) (tree : Expr) (n : ℕ) → expr_read ts ≡ Ok (tree, n) → 0 < n }
 {
+    // A number has one literal that it stands for.
     one_literal();
 }
 
@@ -76,6 +97,7 @@ pub fn answer_before()
     ensures last { (ts : List Lexeme) (tree : Expr) → IsExpr 0 ts tree → expr_read ts ≡ Ok (tree, length ts) }
     ensures before { (ts us : List Lexeme) (t : Lexeme) (tree : Expr) → IsExpr 0 ts tree → EndsExpr t → expr_read (ts ++ t ∷ us) ≡ Ok (tree, length ts) }
 {
+    // A number has one literal that it stands for.
     one_literal();
 }
 
@@ -90,6 +112,7 @@ pub fn none_begins()
     ensures none { (t : Lexeme) (ts : List Lexeme) → BeginsNone t → Begins (t ∷ ts) → ⊥ }
     ensures refused { (t : Lexeme) (ts : List Lexeme) → BeginsNone t → expr_read (t ∷ ts) ≡ Err (ParseFault.At t.place) }
 {
+    // A number has one literal that it stands for.
     one_literal();
 }
 

@@ -14,7 +14,7 @@ use crate::{ParseFault, one_answer, one_tree, source_lexemes};
 use std::alloc::{AllocError, Global};
 use vod_expr_machine::Reader;
 use vod_token::Token;
-use vod_tree::Expr;
+use vod_tree::{Expr, let_go};
 
 /// Takes the longest run of tokens from the place `from` of the list on with which some expression begins (IEEE 1364-2005,
 /// clause 5). Where the run is an expression, the answer is that, with the place in the list of the token behind the run.
@@ -41,6 +41,7 @@ pub fn read_expr(
         (λ read. (n : ℕ) × (read.1 ≡ from + n) × (expr_read (lexemes source.now (drop from tokens.now)) ≡ Ok (read.0, n)))
         (λ fault. (fault ≢ ParseFault.Memory) → expr_read (lexemes source.now (drop from tokens.now)) ≡ Err fault) }
 {
+    // Tokens have one tree at most and one answer, which is right; and a source's tokens are lexemes, of which that is said.
     one_tree();
     one_answer();
     source_lexemes();
@@ -60,9 +61,29 @@ fn read_from(
         (λ read. (n : ℕ) × (read.1 ≡ from + n) × (expr_read (lexemes source.now (drop from tokens.now)) ≡ Ok (read.0, n)))
         (λ fault. (fault ≢ ParseFault.Memory) → expr_read (lexemes source.now (drop from tokens.now)) ≡ Err fault) }
 {
-    let run = rest_from(tokens, from);
     let mut reader = Reader::new(alloc);
-    let taken = take_run(alloc, source, run, &mut reader)?;
+    let read = read_by(alloc, source, tokens, from, &mut reader);
+    let_go(reader);
+    read
+}
+
+// The same, by a reader that has read nothing.
+fn read_by(
+    alloc: Global,
+    source: &[u8],
+    tokens: &[Token],
+    from: usize,
+    reader: &mut Reader,
+) -> Result<(Expr, usize), ParseFault>
+    requires from { from ≤ length tokens.now }
+    requires tokens { All (IsTokenOf source.now) tokens.now }
+    requires fresh { state_of reader.old ≡ start }
+    ensures { MatchResult result
+        (λ read. (n : ℕ) × (read.1 ≡ from + n) × (expr_read (lexemes source.now (drop from tokens.now)) ≡ Ok (read.0, n)))
+        (λ fault. (fault ≢ ParseFault.Memory) → expr_read (lexemes source.now (drop from tokens.now)) ≡ Err fault) }
+{
+    let run = rest_from(tokens, from);
+    let taken = take_run(alloc, source, run, reader)?;
     let tree = reader.ended(alloc)?;
     answer(tree, from + taken, rest_from(run, taken))
 }

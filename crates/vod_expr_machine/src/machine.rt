@@ -15,7 +15,7 @@ use crate::word::{Mark, binary_of, mark_of, unary_of};
 use sqlite_items::{Boxed, Items};
 use std::alloc::{AllocError, Global};
 use vod_token::TokenKind;
-use vod_tree::{BinaryOp, Expr, ExprKind, Ident, Name, UnaryOp};
+use vod_tree::{BinaryOp, Expr, ExprKind, Ident, Name, UnaryOp, let_go};
 
 /// A part that was begun and isn't whole.
 #[derive(Drop)]
@@ -117,12 +117,36 @@ fn prefixed(alloc: Global, op: UnaryOp, operand: Expr) -> Result<ExprKind, Alloc
     Ok(ExprKind::Unary(op, operand))
 }
 
+// Two parts, each in a box.
+fn boxed(alloc: Global, first: Expr, second: Expr) -> Result<(Boxed<Expr>, Boxed<Expr>), AllocError>
+    ensures { IfOk result (λ x. (x.0 ≡ first) × (x.1 ≡ second)) }
+{
+    match Boxed::new(alloc, first) {
+        Ok(first) => {
+            let second = Boxed::new(alloc, second)?;
+            Ok((first, second))
+        }
+        Err(fault) => {
+            let_go(second);
+            Err(fault)
+        }
+    }
+}
+
+// The parts so far and a further one.
+fn with_part(parts: Items<Expr>, last: Expr) -> Result<Items<Expr>, AllocError>
+    ensures { IfOk result (λ x. x ≡ parts ++ last ∷ []) }
+{
+    let mut parts = parts;
+    parts.push(last)?;
+    Ok(parts)
+}
+
 // An operator between its operands.
 fn joined(alloc: Global, left: Expr, op: BinaryOp, right: Expr) -> Result<ExprKind, AllocError>
     ensures { IfOk result (λ x. x ≡ e.Binary op left right) }
 {
-    let left = Boxed::new(alloc, left)?;
-    let right = Boxed::new(alloc, right)?;
+    let (left, right) = boxed(alloc, left, right)?;
     Ok(ExprKind::Binary(op, left, right))
 }
 
@@ -135,10 +159,16 @@ fn chosen(
 ) -> Result<ExprKind, AllocError>
     ensures { IfOk result (λ x. x ≡ e.Conditional condition then otherwise) }
 {
-    let condition = Boxed::new(alloc, condition)?;
-    let then = Boxed::new(alloc, then)?;
-    let otherwise = Boxed::new(alloc, otherwise)?;
-    Ok(ExprKind::Conditional(condition, then, otherwise))
+    match boxed(alloc, condition, then) {
+        Ok((condition, then)) => {
+            let otherwise = Boxed::new(alloc, otherwise)?;
+            Ok(ExprKind::Conditional(condition, then, otherwise))
+        }
+        Err(fault) => {
+            let_go(otherwise);
+            Err(fault)
+        }
+    }
 }
 
 // Where the expression begins that the frame and its last part are.
@@ -175,11 +205,22 @@ fn taken(alloc: Global, frame: Frame, place: u32, kind: ExprKind) -> Result<Expr
             then,
             Expr { place, kind },
         ),
-        _ => Ok(kind),
+        other => {
+            let_go(other);
+            Ok(kind)
+        }
     }
 }
 
 impl Reader {
+    // The head becomes this one.
+    fn put_head(&mut self, head: Head)
+        ensures head { self.new.head ≡ head }
+        ensures frames { frames_of self.new ≡ frames_of self.old }
+    {
+        let_go(std::mem::replace(&mut self.head, head));
+    }
+
     fn push(&mut self, frame: Frame) -> Result<(), AllocError>
         ensures frames { OnOk result (frames_of self.new ≡ frame ∷ frames_of self.old) }
         ensures head { self.new.head ≡ self.old.head }
@@ -220,12 +261,20 @@ impl Reader {
     {
         let mut begin = place;
         let mut tree = kind;
-        while let Some(frame) = self.pop_binding(level)? {
-            let outer = taken_place(&frame, begin);
-            tree = taken(alloc, frame, begin, tree)?;
-            begin = outer;
+        loop {
+            match self.pop_binding(level) {
+                Ok(Some(frame)) => {
+                    let outer = taken_place(&frame, begin);
+                    tree = taken(alloc, frame, begin, tree)?;
+                    begin = outer;
+                }
+                Ok(None) => return Ok((begin, tree)),
+                Err(fault) => {
+                    let_go(tree);
+                    return Err(fault);
+                }
+            }
         }
-        Ok((begin, tree))
     }
 
     // A part begins, in which an operand is wanted.
@@ -233,7 +282,7 @@ impl Reader {
         ensures { Gives result (Some (machine Wanted (frame ∷ frames_of self.old))) None self.new }
     {
         self.push(frame)?;
-        self.head = Head::Wanted;
+        self.put_head(Head::Wanted);
         Ok(true)
     }
 
@@ -241,7 +290,7 @@ impl Reader {
     fn whole(&mut self, place: u32, kind: ExprKind) -> Result<bool, AllocError>
         ensures { Gives result (whole (frames_of self.old) place kind) None self.new }
     {
-        self.head = Head::Whole(place, kind);
+        self.put_head(Head::Whole(place, kind));
         Ok(true)
     }
 
@@ -261,8 +310,11 @@ impl Reader {
     fn put_back(&mut self, frame: Frame, place: u32, kind: ExprKind) -> Result<bool, AllocError>
         ensures { Gives result None (ended (Whole place kind) (frame ∷ frames_of self.old)) self.new }
     {
-        self.push(frame)?;
-        self.head = Head::Whole(place, kind);
+        if let Err(fault) = self.push(frame) {
+            let_go(kind);
+            return Err(fault);
+        }
+        self.put_head(Head::Whole(place, kind));
         Ok(false)
     }
 
@@ -278,8 +330,7 @@ impl Reader {
     fn call(&mut self, name: Ident, parts: Items<Expr>, last: Expr) -> Result<bool, AllocError>
         ensures { Gives result (whole (frames_of self.old) name.place (e.Call name (parts ++ last ∷ []))) None self.new }
     {
-        let mut parts = parts;
-        parts.push(last)?;
+        let parts = with_part(parts, last)?;
         self.whole(name.place, ExprKind::Call(name, parts))
     }
 
@@ -318,8 +369,7 @@ impl Reader {
     ) -> Result<bool, AllocError>
         ensures { Gives result (whole (frames_of self.old) name.place (e.Range name first last)) None self.new }
     {
-        let first = Boxed::new(alloc, first)?;
-        let last = Boxed::new(alloc, last)?;
+        let (first, last) = boxed(alloc, first, last)?;
         self.whole(name.place, ExprKind::Range(name, first, last))
     }
 
@@ -332,8 +382,7 @@ impl Reader {
     ) -> Result<bool, AllocError>
         ensures { Gives result (Some (machine Wanted (Call name (parts ++ last ∷ []) ∷ frames_of self.old))) None self.new }
     {
-        let mut parts = parts;
-        parts.push(last)?;
+        let parts = with_part(parts, last)?;
         self.begin(Frame::Call(name, parts))
     }
 
@@ -341,8 +390,7 @@ impl Reader {
     fn next_part(&mut self, place: u32, parts: Items<Expr>, last: Expr) -> Result<bool, AllocError>
         ensures { Gives result (Some (machine Wanted (Concat place (parts ++ last ∷ []) ∷ frames_of self.old))) None self.new }
     {
-        let mut parts = parts;
-        parts.push(last)?;
+        let parts = with_part(parts, last)?;
         self.begin(Frame::Concat(place, parts))
     }
 
@@ -356,17 +404,20 @@ impl Reader {
     ) -> Result<bool, AllocError>
         ensures { Gives result (Some (machine Wanted (Replicate place count (parts ++ last ∷ []) ∷ frames_of self.old))) None self.new }
     {
-        let mut parts = parts;
-        parts.push(last)?;
-        self.begin(Frame::Replicate(place, count, parts))
+        match with_part(parts, last) {
+            Ok(parts) => self.begin(Frame::Replicate(place, count, parts)),
+            Err(fault) => {
+                let_go(count);
+                Err(fault)
+            }
+        }
     }
 
     // `{ expr, .. }` is whole.
     fn concat(&mut self, place: u32, parts: Items<Expr>, last: Expr) -> Result<bool, AllocError>
         ensures { Gives result (whole (frames_of self.old) place (e.Concat (parts ++ last ∷ []))) None self.new }
     {
-        let mut parts = parts;
-        parts.push(last)?;
+        let parts = with_part(parts, last)?;
         self.whole(place, ExprKind::Concat(parts))
     }
 
@@ -380,10 +431,16 @@ impl Reader {
     ) -> Result<bool, AllocError>
         ensures { Gives result (Some (machine (Outer place count (parts ++ last ∷ [])) (frames_of self.old))) None self.new }
     {
-        let mut parts = parts;
-        parts.push(last)?;
-        self.head = Head::Outer(place, count, parts);
-        Ok(true)
+        match with_part(parts, last) {
+            Ok(parts) => {
+                self.put_head(Head::Outer(place, count, parts));
+                Ok(true)
+            }
+            Err(fault) => {
+                let_go(count);
+                Err(fault)
+            }
+        }
     }
 
     // `]` behind an expression in a frame.
@@ -499,7 +556,10 @@ impl Reader {
     {
         match mark {
             Mark::Question => {
-                self.push(frame)?;
+                if let Err(fault) = self.push(frame) {
+                    let_go(kind);
+                    return Err(fault);
+                }
                 self.begin(Frame::Chosen(place, kind))
             }
             Mark::Colon => self.colon(frame, place, kind),
@@ -521,7 +581,7 @@ impl Reader {
         match mark {
             Mark::Question => self.begin(Frame::Chosen(place, kind)),
             _ => {
-                self.head = Head::Whole(place, kind);
+                self.put_head(Head::Whole(place, kind));
                 Ok(false)
             }
         }
@@ -561,7 +621,7 @@ impl Reader {
                 self.begin(Frame::Left(begin, tree, op))
             }
             None => {
-                self.head = Head::Whole(place, kind);
+                self.put_head(Head::Whole(place, kind));
                 Ok(false)
             }
         }
@@ -575,7 +635,7 @@ impl Reader {
         match op {
             Some(op) => {
                 self.push(Frame::Prefix(place, op))?;
-                self.head = Head::Bare;
+                self.put_head(Head::Bare);
                 Ok(true)
             }
             None => Ok(false),
@@ -589,10 +649,13 @@ impl Reader {
     {
         match &self.head {
             Head::Wanted | Head::Bare => {
-                self.head = head;
+                self.put_head(head);
                 Ok(true)
             }
-            _ => Ok(false),
+            _ => {
+                let_go(head);
+                Ok(false)
+            }
         }
     }
 
@@ -625,10 +688,20 @@ impl Reader {
     {
         match mark {
             Mark::CloseBrace => {
-                let count = Boxed::new(alloc, count)?;
+                let count = match Boxed::new(alloc, count) {
+                    Ok(count) => count,
+                    Err(fault) => {
+                        let_go(parts);
+                        return Err(fault);
+                    }
+                };
                 self.whole(place, ExprKind::Replicate(count, parts))
             }
-            _ => Ok(false),
+            _ => {
+                let_go(count);
+                let_go(parts);
+                Ok(false)
+            }
         }
     }
 
@@ -679,7 +752,12 @@ impl Reader {
             Head::Wanted => self.preceded(unary_of(text), place),
             Head::Named(name) => self.named_followed(alloc, binary_of(text), name),
             Head::Whole(begin, kind) => self.followed(alloc, binary_of(text), begin, kind),
-            Head::Bare | Head::Outer(..) => Ok(false),
+            Head::Bare => Ok(false),
+            Head::Outer(_, count, parts) => {
+                let_go(count);
+                let_go(parts);
+                Ok(false)
+            }
         }
     }
 
@@ -709,7 +787,11 @@ impl Reader {
                 place: begin,
                 kind: tree,
             })),
-            Some(_) => Ok(None),
+            Some(frame) => {
+                let_go(frame);
+                let_go(tree);
+                Ok(None)
+            }
         }
     }
 
@@ -724,7 +806,12 @@ impl Reader {
                 self.alone(alloc, place, ExprKind::Name(name))
             }
             Head::Whole(place, kind) => self.alone(alloc, place, kind),
-            _ => Ok(None),
+            Head::Wanted | Head::Bare => Ok(None),
+            Head::Outer(_, count, parts) => {
+                let_go(count);
+                let_go(parts);
+                Ok(None)
+            }
         }
     }
 

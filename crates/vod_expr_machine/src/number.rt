@@ -13,6 +13,7 @@ pub(crate) fn number_of(text: &[u8], place: u32) -> Number
     requires { IsTokenText text.now TokenKind.Number }
     ensures { result ≡ number_of (record { kind = TokenKind.Number; text = text.now; place = place }) }
 {
+    // A number has one literal that it stands for.
     one_literal();
     let literal = literal_of(text);
     Number {

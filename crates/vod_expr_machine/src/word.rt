@@ -6,7 +6,7 @@ ghost use Rattle.vod_expr_machine.specs.Machine.{same_text, looked_up, mark_of, 
 use vod_tree::{BinaryOp, UnaryOp};
 
 /// What a symbol of an expression is, where it is no operator.
-#[derive(Clone, Copy, Debug, PartialEq, Eq)]
+#[derive(Clone, Copy, PartialEq, Eq)]
 pub enum Mark {
     /// `(`
     OpenParen,

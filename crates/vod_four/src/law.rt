@@ -21,6 +21,7 @@ pub fn agree_on_pairs(a: Bits, b: Bits)
     ensures equal { a ≡ b → equal_bit a b ≡ B1 }
     ensures different { a ≢ b → equal_bit a b ≡ B0 }
 {
+    // These two bring that every bit of the operands is known.
     let _a = Four::of(a);
     let _b = Four::of(b);
 }
@@ -33,6 +34,7 @@ pub fn agree_on_shifts(a: Bits, amount: Bits)
     ensures right { shift_right_by amount a ≡ shift_right B0 (number_of amount) a }
     ensures signed { shift_signed_by amount a ≡ shift_right (upper_bit a) (number_of amount) a }
 {
+    // These two bring that every bit of the value and of the amount is known.
     let _a = Four::of(a);
     let _amount = Four::of(amount);
 }

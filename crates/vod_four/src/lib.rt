@@ -14,7 +14,7 @@ use std::marker::Model;
 use vod_bits::{Bits, WIDTH, Word};
 
 /// A value: `width` bits, from 1 to `WIDTH`. A bit is 0, 1, x or z where it is set in `ones` and in `unks` as 00, 10, 01 or 11.
-#[derive(Clone, Copy, Debug)]
+#[derive(Clone, Copy)]
 pub struct Four {
     pub width: u8,
     pub ones: Word,

@@ -22,6 +22,8 @@ pub fn phrases_are_exact()
     ensures before { (m : Sight) (ts : List Lexeme) (x : Expr) (w : Word) (t : Lexeme) → IsExpr 0 ts x → Is w t → closes (spelling w) ≡ true →
         ExpressionPhrase m ts x (Some t) }
 {
+    // An expression has one answer, which is right; it is read whole at the end or before a token that ends it, and hangs on one
+    // token behind it. A number has one literal that it stands for.
     one_answer();
     answer_before();
     one_ahead();

@@ -183,6 +183,7 @@ fn number_of(source: &[u8], token: Token) -> Number
     requires kind { token.kind ≡ TokenKind.Number }
     ensures { result ≡ number_of (lexeme source.now token) }
 {
+    // A number has one literal that it stands for.
     one_literal();
     let literal = literal_of(text_of(source, token));
     Number {

@@ -6,7 +6,7 @@ ghost use Rattle.vod_grammar.specs.Words.{is_symbol, kind_of, same_kind, spellin
 use vod_token::TokenKind;
 
 /// A reserved word or a symbol of the grammar of sources (IEEE 1364-2005, Annex A).
-#[derive(Clone, Copy, Debug, PartialEq, Eq)]
+#[derive(Clone, Copy, PartialEq, Eq)]
 pub enum Word {
     Always,
     And,

@@ -19,10 +19,14 @@ use Rattle.vod_initial.specs.Initial.{IsInitial, initial, for_loop}
 abbrev pub value_form : Form Expr
 value_form = then (word_form word.Equals) (λ _. then expression_form (λ a. mapped (λ _. a) (word_form word.Semicolon)))
 
+-- behind a name and an index: `]` and a value
+abbrev pub indexed : Ident → Expr → Form InitialKind
+indexed name index = then (word_form word.CloseBracket) (λ _. mapped (λ a. kind.AssignIndex name index a) value_form)
+
 -- behind a name: a value, or an index and a value
 abbrev pub target : Ident → Form InitialKind
 target name =
-    either word.OpenBracket (λ _. then expression_form (λ index. then (word_form word.CloseBracket) (λ _. mapped (λ a. kind.AssignIndex name index a) value_form)))
+    either word.OpenBracket (λ _. then expression_form (indexed name))
     (mapped (λ a. kind.Assign name a) value_form)
 
 abbrev pub assigned : Form InitialKind

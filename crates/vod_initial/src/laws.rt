@@ -21,5 +21,6 @@ pub fn initial_statements_are_exact()
     ensures below { (n : ℕ) (front : List Lexeme) (t : Lexeme) → starts_initial t ≡ true → Below n front → (initial_form n).deep front t }
     ensures starts { (ts : List Lexeme) (x : InitialStatement) → IsInitial ts x → (t : Lexeme) × (us : List Lexeme) × (ts ≡ t ∷ us) × (starts_initial t ≡ true) }
 {
+    // Words, names and expressions are read exactly, of which the form is made.
     phrases_are_exact();
 }

@@ -4,7 +4,7 @@ ghost use Rattle.vod_initial.specs.InitialForm.{bounds_form, comparison_form, he
 
 use vod_expr::ParseFault;
 use vod_grammar::{Reader, Word};
-use vod_tree::{Expr, Ident, Number};
+use vod_tree::{Expr, Ident, Number, let_go};
 
 /// The index of a `for` and what it begins with.
 pub(crate) type Start = (Ident, Expr);
@@ -21,8 +21,14 @@ pub(crate) fn head(reader: Reader<'_>, at: &mut usize) -> Result<(Start, Test, S
     ensures { Gives result (left reader.entry at.new) (head_form.read (left reader.entry at.old)) }
 {
     let (start, test) = bounds(reader, at)?;
-    let step = last(reader, at)?;
-    Ok((start, test, step))
+    match last(reader, at) {
+        Ok(step) => Ok((start, test, step)),
+        Err(fault) => {
+            let_go(start);
+            let_go(test);
+            Err(fault)
+        }
+    }
 }
 
 // `(`, the start and the test.
@@ -32,8 +38,13 @@ fn bounds(reader: Reader<'_>, at: &mut usize) -> Result<(Start, Test), ParseFaul
 {
     reader.word(at, Word::OpenParen)?;
     let start = start(reader, at)?;
-    let test = test(reader, at)?;
-    Ok((start, test))
+    match test(reader, at) {
+        Ok(test) => Ok((start, test)),
+        Err(fault) => {
+            let_go(start);
+            Err(fault)
+        }
+    }
 }
 
 // The step and `)`.
@@ -53,8 +64,13 @@ pub(crate) fn value(reader: Reader<'_>, at: &mut usize) -> Result<Expr, ParseFau
 {
     reader.word(at, Word::Equals)?;
     let value = reader.expression(at)?;
-    reader.word(at, Word::Semicolon)?;
-    Ok(value)
+    match reader.word(at, Word::Semicolon) {
+        Ok(_) => Ok(value),
+        Err(fault) => {
+            let_go(value);
+            Err(fault)
+        }
+    }
 }
 
 // `NAME = expr ;`: the index and what it begins with.
@@ -75,8 +91,13 @@ fn test(reader: Reader<'_>, at: &mut usize) -> Result<Test, ParseFault>
     let tested = reader.name(at)?;
     let inclusive = comparison(reader, at)?;
     let bound = reader.expression(at)?;
-    reader.word(at, Word::Semicolon)?;
-    Ok((tested, inclusive, bound))
+    match reader.word(at, Word::Semicolon) {
+        Ok(_) => Ok((tested, inclusive, bound)),
+        Err(fault) => {
+            let_go(bound);
+            Err(fault)
+        }
+    }
 }
 
 // `<` or `<=`, as whether it is the second.

@@ -7,14 +7,14 @@ ghost use Rattle.vod_grammar.specs.Words.{is_other};
 ghost use Rattle.vod_grammar.specs.declared.word.Word.TheVariants.{End};
 ghost use Rattle.vod_tree.specs.declared.statement.InitialKind.{InitialKind};
 ghost use Rattle.vod_initial.specs.Initial.{for_loop};
-ghost use Rattle.vod_initial.specs.InitialForm.{alternatives, assigned, block_form, block_or_assigned, for_form, initial_form, starts_initial, target};
+ghost use Rattle.vod_initial.specs.InitialForm.{alternatives, assigned, block_form, block_or_assigned, for_form, indexed, initial_form, starts_initial, target};
 
 use crate::loops::{Start, Step, Test, head, value};
 use sqlite_items::{Boxed, Items};
 use vod_expr::ParseFault;
 use vod_grammar::{Reader, Word};
 use vod_statement::block_name;
-use vod_tree::{ForLoop, Ident, InitialKind, InitialStatement};
+use vod_tree::{Expr, ForLoop, Ident, InitialKind, InitialStatement, let_go};
 
 /// How deeply statements may be nested: the statement of an `initial` has depth 1.
 const LIMIT: usize = 64;
@@ -82,8 +82,13 @@ fn for_loop(reader: Reader<'_>, at: &mut usize, depth: usize) -> Result<InitialK
     ensures { Gives result (left reader.entry at.new) ((for_form (initial_form depth)).read (left reader.entry at.old)) }
 {
     let head = head(reader, at)?;
-    let body = boxed(reader, at, depth)?;
-    Ok(for_of(head, body))
+    match boxed(reader, at, depth) {
+        Ok(body) => Ok(for_of(head, body)),
+        Err(fault) => {
+            let_go(head);
+            Err(fault)
+        }
+    }
 }
 
 // The body of a `for`.
@@ -192,7 +197,28 @@ fn assigned_to(reader: Reader<'_>, at: &mut usize, name: Ident) -> Result<Initia
         return Ok(InitialKind::Assign(name, value));
     };
     let index = reader.expression(at)?;
-    reader.word(at, Word::CloseBracket)?;
-    let value = value(reader, at)?;
-    Ok(InitialKind::AssignIndex(name, index, value))
+    indexed(reader, at, name, index)
+}
+
+// Behind the name and the index.
+fn indexed(
+    reader: Reader<'_>,
+    at: &mut usize,
+    name: Ident,
+    index: Expr,
+) -> Result<InitialKind, ParseFault>
+    requires { IsOfSource reader }
+    ensures { Gives result (left reader.entry at.new) ((indexed name index).read (left reader.entry at.old)) }
+{
+    if let Err(fault) = reader.word(at, Word::CloseBracket) {
+        let_go(index);
+        return Err(fault);
+    }
+    match value(reader, at) {
+        Ok(value) => Ok(InitialKind::AssignIndex(name, index, value)),
+        Err(fault) => {
+            let_go(index);
+            Err(fault)
+        }
+    }
 }

@@ -1,4 +1,4 @@
--- What a stop may leave while a log is opened for appending.
+-- What a crash may leave while a log is opened for appending.
 use Rattle.std.proofs.Common.{◌≡◌, ℕ, ◌≤◌, ◌<◌, inl, inr, List, [], ◌∷◌, length, get_or, refl, sym, ◌∙◌, ap, subst, arith}
 use Rattle.std.specs.Prelude.{true, false, nat_le, None, if◌then◌else◌}
 use Rattle.std.proofs.lemmas.List.{get_or_default, drop_all}

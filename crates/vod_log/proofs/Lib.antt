@@ -1,6 +1,6 @@
 pub mod Readings
 pub mod Appends
-pub mod Stops
+pub mod Crashes
 pub mod Bounds
 pub mod Opening
 pub mod Creates

@@ -33,7 +33,7 @@ pub record EndsAt (bytes : List ℕ) (gate : ℕ) (last : Option Header) : Type 
   pub inside : gate < length bytes
   pub closed : slice_index bytes gate ≡ 0
 
--- a log on a deck ends so, and a stop leaves the file as a read gives it
+-- a log on a deck ends so, and a crash leaves the file as a read gives it
 pub record IsSettled (v : View) (gate : ℕ) (last : Option Header) : Type 0 where
   pub ends : EndsAt v.bytes gate last
   pub lasts : Only v.bytes v.may_leave

@@ -1,4 +1,4 @@
-//! A log of records on a deck, of which a stop at any moment leaves whole ones.
+//! A log of records on a deck, of which a crash at any moment leaves whole ones.
 #![tactic(auto)]
 
 mod header;

@@ -115,7 +115,7 @@ impl Log {
         ensures wrong { IfErr result (λ fault. OnNotALog fault (λ at. L.tells → IsWrongAt (committed (L.view deck.old).bytes) at)) }
         ensures kept { L.tells → 1 < length (L.view deck.old).bytes → (L.view deck.new).bytes ≡ (L.view deck.old).bytes }
         ensures created { OnOk result (L.tells → length (L.view deck.old).bytes ≤ 1 → (L.view deck.new).bytes ≡ 0 ∷ []) }
-        ensures stops { L.tells → Leaves (L.view deck.old) (L.view deck.new) (From (L.view deck.old).may_leave (Opens (L.view deck.old).bytes)) }
+        ensures crashes { L.tells → Leaves (L.view deck.old) (L.view deck.new) (From (L.view deck.old).may_leave (Opens (L.view deck.old).bytes)) }
         ensures later { (L.view deck.old).faults ≤ (L.view deck.new).faults }
         ensures caused { IsErrOf result DeckFault → Rose (L.view deck.old).faults (L.view deck.new).faults }
         ensures most { IfOk result (λ log. (L.view deck.new).bytes_read ≤ (L.view deck.old).bytes_read + 49 * (length log.records + 1)) }

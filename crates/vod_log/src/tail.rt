@@ -149,7 +149,7 @@ impl Tail {
 
     /// Appends a frame: the header of a record, its payload, and a closed gate. It is written behind
     /// the closed gate where the log ends, and then that gate is opened, each with a sync. After Ok
-    /// the record is held. A stop in the call leaves the records of before, or these and the new one.
+    /// the record is held. A crash in the call leaves the records of before, or these and the new one.
     pub fn append<L: Deck>(&mut self, deck: &mut L, frame: &[u8]) -> Result<(), AppendFault>
         requires goes_on { Continues self.old.last frame.now }
         requires settled { L.tells → self.old.broken ≡ false → IsSettled (L.view deck.old) self.old.gate self.old.last }
@@ -160,7 +160,7 @@ impl Tail {
         ensures fails { OnErr result (self.new ≡ record self.old { broken = true }) }
         ensures broken { IsErrOf result Broken ↔ (self.old.broken ≡ true) }
         ensures untouched { self.old.broken ≡ true → deck.new ≡ deck.old }
-        ensures stops { L.tells → self.old.broken ≡ false → Leaves (L.view deck.old) (L.view deck.new)
+        ensures crashes { L.tells → self.old.broken ≡ false → Leaves (L.view deck.old) (L.view deck.new)
             (From (L.view deck.old).may_leave (HoldsEither (committed (L.view deck.old).bytes) (appended (committed (L.view deck.old).bytes) self.old.gate frame.now))) }
         ensures later { (L.view deck.old).faults ≤ (L.view deck.new).faults }
         ensures caused { IsErrOf result DeckFault → Rose (L.view deck.old).faults (L.view deck.new).faults }

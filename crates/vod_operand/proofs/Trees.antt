@@ -8,9 +8,9 @@ use Rattle.vod_design.specs.declared.sized.SizedKind.TheVariants as kind
 use Rattle.vod_operand.specs.declared.fault.Fault.{Fault}
 use Rattle.vod_operand.specs.declared.tree.Pair.{Pair}
 use Rattle.vod_operand.specs.declared.operators.Row.{Row}
-use Rattle.vod_operand.specs.Operands.{Looked, looked, node, first}
+use Rattle.vod_operand.specs.Operands.{Looked, looked, node, first, join}
 use Rattle.vod_operand.specs.Operators.{larger, like_both, like_left, compare, truths, look_binary}
-use Rattle.vod_operand.specs.Found.{join, row_of, both_of, looked_of, pair_kind_of, pair_tree_of, triple_tree_of, TreeIs, SeesAs, Sees}
+use Rattle.vod_operand.specs.Found.{row_of, both_of, looked_of, pair_kind_of, pair_tree_of, triple_tree_of, TreeIs, SeesAs, Sees}
 use Rattle.vod_operand.specs.FaultLaws.{first_append, join_none}
 use Rattle.vod_operand.specs.FoundLaws.{tree_moved}
 use Rattle.vod_operand.specs.declared.tree.Looked as code

@@ -22,25 +22,22 @@ use Rattle.vod_operand.specs.declared.tree.Pair.{Pair}
 use Rattle.vod_operand.specs.declared.tree.Single.{Single}
 use Rattle.vod_operand.specs.declared.operators.Row.{Row}
 use Rattle.vod_operand.specs.Fits.{Fits}
-use Rattle.vod_operand.specs.Operands.{Looked, node, place_of, first, is_sound, natural}
+use Rattle.vod_operand.specs.Operands.{Looked, node, sooner, first, is_sound, natural}
 use Rattle.vod_operand.specs.declared.tree.Looked as code
 use Rattle.vod_operand.specs.declared.tree.Pair.TheVariants as pairs
 use Rattle.vod_operand.specs.declared.tree.Single.TheVariants as singles
 use Rattle.vod_operand.specs.declared.operators.Row.TheVariants as rows
 
-abbrev pub sooner_of : Fault → Fault → Fault
-sooner_of f g = if nat_lt (place_of g) (place_of f) then g else f
-
 abbrev pub both_of : Result SizedExpr Fault → Result SizedExpr Fault → Result (SizedExpr × SizedExpr) Fault
 both_of (Ok a) (Ok b) = Ok (a, b)
 both_of (Ok a) (Err g) = Err g
 both_of (Err f) (Ok b) = Err f
-both_of (Err f) (Err g) = Err (sooner_of f g)
+both_of (Err f) (Err g) = Err (sooner f g)
 
 abbrev pub beside_of : Result SizedExpr Fault → Result (Unit {0}) Fault → Result SizedExpr Fault
 beside_of tree (Ok u) = tree
 beside_of (Ok t) (Err f) = Err f
-beside_of (Err g) (Err f) = Err (sooner_of g f)
+beside_of (Err g) (Err f) = Err (sooner g f)
 
 abbrev pub looked_of : ℕ → ℕ → Bool → Bool → Result SizedExpr Fault → code.Looked
 looked_of place width signed constant tree = record { place = place; width = width; signed = signed; constant = constant; tree = tree }
@@ -71,7 +68,7 @@ abbrev pub triple_tree_of : Result SizedExpr Fault → Result (SizedExpr × Size
 triple_tree_of (Ok t) (Ok p) = Ok (node 0 false (kind.Conditional t p.0 p.1))
 triple_tree_of (Ok t) (Err g) = Err g
 triple_tree_of (Err f) (Ok p) = Err f
-triple_tree_of (Err f) (Err g) = Err (sooner_of f g)
+triple_tree_of (Err f) (Err g) = Err (sooner f g)
 
 -- a tree at a size and sign, or the same fault
 abbrev pub FitsTree : ℕ → Bool → Result SizedExpr Fault → Result SizedExpr Fault → Type 0
@@ -154,15 +151,10 @@ known_natural x = if is_sound x then natural x else None
 abbrev pub natural_of : Bool → Bool → List Bit → Option ℕ
 natural_of constant signed bits = if constant && (all_known bits && not (signed && is_1 (upper_bit bits))) then Some (number_of bits) else None
 
--- the first fault of a tree, and the sooner of two
+-- the fault of a tree
 abbrev pub fault_of : Result SizedExpr Fault → Option Fault
 fault_of (Ok t) = None
 fault_of (Err f) = Some f
-
-abbrev pub join : Option Fault → Option Fault → Option Fault
-join None g = g
-join (Some f) None = Some f
-join (Some f) (Some g) = Some (sooner_of f g)
 
 abbrev pub fault_if : Bool → ℕ → Option Fault
 fault_if test place = if test then Some (Rule place) else None

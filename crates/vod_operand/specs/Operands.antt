@@ -70,16 +70,22 @@ look_number n = looked (bounded n.size) n.signed true [] (λ w s. node w s (kind
 abbrev pub at_place : ℕ → Looked → Looked
 at_place place x = record x { place = place; faults = x.faults ++ (if nat_lt WIDTH x.width then Width place ∷ [] else []) }
 
--- of two faults the one at the lesser place; at one place, that a rule fails stands before a width
+-- where a fault stands among others: by its place, and at one place that a rule fails stands before a width
 abbrev pub place_of : Fault → ℕ
 place_of (Rule place) = 2 * place
 place_of (Width place) = 2 * place + 1
 
-abbrev pub sooner : Fault → Option Fault → Option Fault
-sooner f None = Some f
-sooner f (Some g) = if nat_lt (place_of g) (place_of f) then Some g else Some f
+-- the sooner of two faults
+abbrev pub sooner : Fault → Fault → Fault
+sooner f g = if nat_lt (place_of g) (place_of f) then g else f
+
+-- the sooner of two faults, where there are some
+abbrev pub join : Option Fault → Option Fault → Option Fault
+join None g = g
+join (Some f) None = Some f
+join (Some f) (Some g) = Some (sooner f g)
 
 -- the first of several faults
 abbrev pub first : List Fault → Option Fault
 first [] = None
-first (f ∷ fs) = sooner f (first fs)
+first (f ∷ fs) = join (Some f) (first fs)

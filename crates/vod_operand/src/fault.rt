@@ -1,10 +1,10 @@
 //! Faults of an expression, and which of several is the first.
 ghost use Rattle.std.specs.Prelude.{◌≡◌};
-ghost use Rattle.vod_operand.specs.Operands.{place_of};
-ghost use Rattle.vod_operand.specs.Found.{sooner_of, join, fault_if};
+ghost use Rattle.vod_operand.specs.Operands.{place_of, sooner, join};
+ghost use Rattle.vod_operand.specs.Found.{fault_if};
 
 /// A fault of an expression or of a part of it, at its first token.
-#[derive(Clone, Copy, Debug, PartialEq, Eq)]
+#[derive(Clone, Copy, PartialEq, Eq)]
 pub enum Fault {
     /// A part that has to be constant isn't, or has a value that it may not have.
     Rule(u32),
@@ -14,7 +14,7 @@ pub enum Fault {
 
 /// The sooner of two faults.
 pub fn sooner(a: Fault, b: Fault) -> Fault
-    ensures { result ≡ sooner_of a b }
+    ensures { result ≡ sooner a b }
 {
     if order(b) < order(a) { b } else { a }
 }

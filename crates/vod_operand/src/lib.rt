@@ -12,5 +12,6 @@ pub use fault::{Fault, fault_if, join, sooner};
 pub use number::{literal, natural, part_fault, value};
 pub use operators::{binary, conditional, unary};
 pub use tree::{
-    Looked, WIDE, at_place, both_hold, fault_of, fit, fit_own, tree_unless, unplaced, unsized_node,
+    Looked, WIDE, at_place, both_hold, fault_of, fit, fit_own, fit_own_pair, tree_unless, unplaced,
+    unsized_node,
 };

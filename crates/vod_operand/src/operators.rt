@@ -6,7 +6,8 @@ ghost use Rattle.vod_operand.specs.Operators.{look_unary, look_binary, look_cond
 ghost use Rattle.vod_operand.specs.Found.{Sees, Saw, row_of, single_of, both_of, looked_of, pair_kind_of, pair_tree_of, triple_tree_of, single_kind_of};
 
 use crate::tree::{
-    Looked, Pair, Single, both_hold, fit, fit_own, larger, pair_tree, single_tree, triple_tree,
+    Looked, Pair, Single, both_hold, fit_own, fit_own_pair, fit_pair, larger, pair_tree,
+    single_tree, triple_tree,
 };
 use std::alloc::{AllocError, Global};
 use vod_design::{BinaryOp, ComparisonOp, LogicalOp, ReductionOp, ShiftOp, UnaryOp};
@@ -97,16 +98,14 @@ fn compared(alloc: Global, pair: Pair, a: Looked, b: Looked) -> Result<Looked, A
 {
     let width = larger(a.width, b.width);
     let signed = both_signed(&a, &b);
-    let a = fit(alloc, a, width, signed)?;
-    let b = fit(alloc, b, width, signed)?;
+    let (a, b) = fit_pair(alloc, a, b, width, signed)?;
     paired(alloc, pair, a, b, 1, false)
 }
 
 fn truths(alloc: Global, pair: Pair, a: Looked, b: Looked) -> Result<Looked, AllocError>
     ensures { IfOk result (λ c. (x y : Found) → Saw a x → Saw b y → Sees c (truths (pair_kind_of pair) x y)) }
 {
-    let a = fit_own(alloc, a)?;
-    let b = fit_own(alloc, b)?;
+    let (a, b) = fit_own_pair(alloc, a, b)?;
     paired(alloc, pair, a, b, 1, false)
 }
 

@@ -2,6 +2,7 @@
 ghost use Rattle.std.specs.Prelude.{◌≡◌, ◌&&◌, min, false, IfOk};
 ghost use Rattle.vod_operand.specs.Operands.{Looked as Found, node, own};
 ghost use Rattle.vod_operand.specs.Operators.{larger};
+ghost use Rattle.vod_design.specs.declared.sized.SizedKind.TheVariants as kind;
 ghost use Rattle.vod_operand.specs.Found.{both_of, beside_of, looked_of, at_place_of, pair_kind_of, pair_tree_of, single_kind_of, single_tree_of, triple_tree_of, FitsTree, fault_of, tree_unless, SeesAs, Sees, Refits, IsNarrow};
 
 use crate::fault::{Fault, sooner};
@@ -12,6 +13,7 @@ use vod_bits::WIDTH;
 use vod_design::{
     BinaryOp, ComparisonOp, LogicalOp, ReductionOp, ShiftOp, SizedExpr, SizedKind, UnaryOp,
 };
+use vod_tree::let_go;
 
 /// A width past `WIDTH`, however large.
 pub const WIDE: u8 = 65;
@@ -78,10 +80,16 @@ fn both(
     match a {
         Ok(a) => match b {
             Ok(b) => Ok((a, b)),
-            Err(f) => Err(f),
+            Err(f) => {
+                let_go(a);
+                Err(f)
+            }
         },
         Err(f) => match b {
-            Ok(_) => Err(f),
+            Ok(b) => {
+                let_go(b);
+                Err(f)
+            }
             Err(g) => Err(sooner(f, g)),
         },
     }
@@ -94,7 +102,10 @@ fn beside(tree: Result<SizedExpr, Fault>, other: Result<(), Fault>) -> Result<Si
     match other {
         Ok(()) => tree,
         Err(f) => match tree {
-            Ok(_) => Err(f),
+            Ok(tree) => {
+                let_go(tree);
+                Err(f)
+            }
             Err(g) => Err(sooner(g, f)),
         },
     }
@@ -130,6 +141,30 @@ fn pair_kind(pair: Pair, a: Boxed<SizedExpr>, b: Boxed<SizedExpr>) -> SizedKind
     }
 }
 
+// Two trees in boxes of their own.
+fn boxed(
+    alloc: Global,
+    a: SizedExpr,
+    b: SizedExpr,
+) -> Result<(Boxed<SizedExpr>, Boxed<SizedExpr>), AllocError>
+    ensures { IfOk result (λ p. (p.0 ≡ a) × (p.1 ≡ b)) }
+{
+    let a = match Boxed::new(alloc, a) {
+        Ok(a) => a,
+        Err(e) => {
+            let_go(b);
+            return Err(e);
+        }
+    };
+    match Boxed::new(alloc, b) {
+        Ok(b) => Ok((a, b)),
+        Err(e) => {
+            let_go(a);
+            Err(e)
+        }
+    }
+}
+
 // The tree of an operator on two operands.
 pub(crate) fn pair_tree(
     alloc: Global,
@@ -141,8 +176,7 @@ pub(crate) fn pair_tree(
 {
     match both(a, b) {
         Ok((a, b)) => {
-            let a = Boxed::new(alloc, a)?;
-            let b = Boxed::new(alloc, b)?;
+            let (a, b) = boxed(alloc, a, b)?;
             Ok(Ok(unsized_node(pair_kind(pair, a, b))))
         }
         Err(f) => Ok(Err(f)),
@@ -177,6 +211,32 @@ pub(crate) fn single_tree(
     }
 }
 
+// The tree of `?:` of three trees.
+fn choice(
+    alloc: Global,
+    test: SizedExpr,
+    a: SizedExpr,
+    b: SizedExpr,
+) -> Result<SizedExpr, AllocError>
+    ensures { IfOk result (λ r. r ≡ node 0 false (kind.Conditional test a b)) }
+{
+    let (a, b) = match boxed(alloc, a, b) {
+        Ok(branches) => branches,
+        Err(e) => {
+            let_go(test);
+            return Err(e);
+        }
+    };
+    match Boxed::new(alloc, test) {
+        Ok(test) => Ok(unsized_node(SizedKind::Conditional(test, a, b))),
+        Err(e) => {
+            let_go(a);
+            let_go(b);
+            Err(e)
+        }
+    }
+}
+
 // The tree of `?:`.
 pub(crate) fn triple_tree(
     alloc: Global,
@@ -189,15 +249,19 @@ pub(crate) fn triple_tree(
     match both(a, b) {
         Ok((a, b)) => match test {
             Ok(test) => {
-                let test = Boxed::new(alloc, test)?;
-                let a = Boxed::new(alloc, a)?;
-                let b = Boxed::new(alloc, b)?;
-                Ok(Ok(unsized_node(SizedKind::Conditional(test, a, b))))
+                let tree = choice(alloc, test, a, b)?;
+                Ok(Ok(tree))
             }
-            Err(f) => Ok(Err(f)),
+            Err(f) => {
+                let_go((a, b));
+                Ok(Err(f))
+            }
         },
         Err(g) => match test {
-            Ok(_) => Ok(Err(g)),
+            Ok(test) => {
+                let_go(test);
+                Ok(Err(g))
+            }
             Err(f) => Ok(Err(sooner(f, g))),
         },
     }
@@ -243,6 +307,50 @@ pub fn fit_own(alloc: Global, x: Looked) -> Result<Looked, AllocError>
     fit(alloc, x, width, signed)
 }
 
+/// Two of them, both at one size and sign.
+pub(crate) fn fit_pair(
+    alloc: Global,
+    a: Looked,
+    b: Looked,
+    width: u8,
+    signed: bool,
+) -> Result<(Looked, Looked), AllocError>
+    ensures { IfOk result (λ p. ((y : Found) → Sees a y → Refits y → SeesAs p.0 y (y.sized width signed)) × ((y : Found) → Sees b y → Refits y → SeesAs p.1 y (y.sized width signed))) }
+{
+    match fit(alloc, a, width, signed) {
+        Ok(a) => match fit(alloc, b, width, signed) {
+            Ok(b) => Ok((a, b)),
+            Err(e) => {
+                let_go(a);
+                Err(e)
+            }
+        },
+        Err(e) => {
+            let_go(b);
+            Err(e)
+        }
+    }
+}
+
+/// Two of them, each at its own size and sign.
+pub fn fit_own_pair(alloc: Global, a: Looked, b: Looked) -> Result<(Looked, Looked), AllocError>
+    ensures { IfOk result (λ p. ((y : Found) → Sees a y → Refits y → IsNarrow y → SeesAs p.0 y (own y)) × ((y : Found) → Sees b y → Refits y → IsNarrow y → SeesAs p.1 y (own y))) }
+{
+    match fit_own(alloc, a) {
+        Ok(a) => match fit_own(alloc, b) {
+            Ok(b) => Ok((a, b)),
+            Err(e) => {
+                let_go(a);
+                Err(e)
+            }
+        },
+        Err(e) => {
+            let_go(b);
+            Err(e)
+        }
+    }
+}
+
 // The larger of two widths, and none where one of them is none.
 pub(crate) fn larger(a: u8, b: u8) -> u8
     ensures { result ≡ larger a b }
@@ -273,6 +381,9 @@ pub fn tree_unless(fault: Option<Fault>, kind: SizedKind) -> Result<SizedExpr, F
 {
     match fault {
         None => Ok(unsized_node(kind)),
-        Some(f) => Err(f),
+        Some(f) => {
+            let_go(kind);
+            Err(f)
+        }
     }
 }

@@ -24,7 +24,7 @@ use vod_design::thin::{Bit, Block, Design, Driver, Move};
 
 /// The value of each signal, and by place what is left: moves by input, initial values,
 /// evaluations and updates by driver, statements and nonblocking updates by block.
-#[derive(Debug, Drop)]
+#[derive(Drop)]
 pub struct Agenda {
     val: Vec<Bit>,
     moves: Waiting,

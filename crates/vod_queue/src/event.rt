@@ -1,7 +1,7 @@
 //! The events of the queue.
 
 /// An event (IEEE 1364-2005, 11.4), with the number of its input, driver, block or initial value.
-#[derive(Clone, Copy, Debug, PartialEq, Eq)]
+#[derive(Clone, Copy, PartialEq, Eq)]
 pub enum Event {
     /// An input takes the value of its move.
     TakeMove(u32),

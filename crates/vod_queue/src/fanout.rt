@@ -11,7 +11,7 @@ use std::marker::Model;
 use vod_design::thin::{Design, Expr, expr_by_operands};
 
 /// For each signal, the drivers that read it and the blocks that wait for its edges.
-#[derive(Debug, Drop)]
+#[derive(Drop)]
 pub struct Listeners {
     pub readers: Fanout,
     pub waiters: Fanout,
@@ -29,7 +29,7 @@ impl Listeners {
 }
 
 /// For each signal a list of places.
-#[derive(Debug, Drop)]
+#[derive(Drop)]
 pub struct Fanout {
     lists: Vec<Vec<u32>>,
 }

@@ -9,7 +9,7 @@ use std::marker::Model;
 /// Flags by place. The counts are a binary tree with its root at 1: node `n` counts the set flags
 /// below its children `2n` and `2n + 1`, and the leaves are the flags. So to write a flag, or to
 /// find the n-th that is set, takes a step for each level.
-#[derive(Debug, Drop)]
+#[derive(Drop)]
 pub struct Flags {
     flags: Vec<bool>,
     counts: Vec<u32>,

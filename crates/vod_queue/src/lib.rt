@@ -27,7 +27,7 @@ use std::marker::Model;
 use vod_design::thin::{Bit, Design, Move};
 
 /// Memory ran out.
-#[derive(Clone, Copy, Debug, PartialEq, Eq)]
+#[derive(Clone, Copy, PartialEq, Eq)]
 pub struct Memory;
 
 impl From<AllocError> for Memory {
@@ -38,7 +38,7 @@ impl From<AllocError> for Memory {
 
 /// The event queue of a design: the value of each signal, and the events that are left
 /// (IEEE 1364-2005, 11.3).
-#[derive(Debug, Drop)]
+#[derive(Drop)]
 pub struct Queue<'d> {
     design: &'d Design,
     listeners: Listeners,

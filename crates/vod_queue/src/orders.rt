@@ -21,6 +21,7 @@ pub fn orders_agree()
     ensures settled { (d : Netlist) (s t : State) (moves : List Move) → IsAccepted d → IsShaped d s → IsSettled d s → IsTrue (is_unmixed_from d s moves) → IsSlot d s moves t → IsShaped d t × IsSettled d t }
     ensures one_run { (d : Netlist) (vectors : List Vector) (first again : State) (ends others : List State) → IsAccepted d → IsLawful d vectors → IsRun d vectors first ends → IsRun d vectors again others → (first ≡ again) × (ends ≡ others) }
 {
+    // A driver none of whose signals changes keeps the value of its right side: a law, which does nothing when it runs.
     value_hangs_on_reads();
 }
 

@@ -11,7 +11,7 @@ use vod_design::thin::Bit;
 
 /// The updates of each block. The clock of a block moves at most once in a slot, so there is one
 /// at most, for which the place is there from the start.
-#[derive(Debug, Drop)]
+#[derive(Drop)]
 pub struct Updates {
     values: Waiting,
 }

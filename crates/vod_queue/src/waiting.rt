@@ -9,7 +9,7 @@ use std::marker::Model;
 use vod_design::thin::Bit;
 
 /// The value that waits at each place, or none.
-#[derive(Debug, Drop)]
+#[derive(Drop)]
 pub struct Waiting {
     bits: Vec<Option<Bit>>,
     filled: Flags,

@@ -11,11 +11,15 @@ use Rattle.vod_grammar.specs.Words.{is_word, same_kind}
 use Rattle.vod_grammar.specs.declared.word.Word.TheVariants as word
 use Rattle.vod_statement.specs.LeftSide.{IsLval, lval}
 
+-- behind the name and the expressions of a select: `]`
+abbrev pub range_end : Ident → Expr → Expr → Form Lval
+range_end name a b = mapped (λ _. lval name.place (kind.Range name a b)) (word_form word.CloseBracket)
+
 -- behind the name and the first expression of a select: `: expr ]` or `]`
 abbrev pub ranged : Ident → Expr → Form Lval
 ranged name a =
     either word.Colon
-    (λ _. then expression_form (λ b. mapped (λ _. lval name.place (kind.Range name a b)) (word_form word.CloseBracket)))
+    (λ _. then expression_form (range_end name a))
     (mapped (λ _. lval name.place (kind.Index name a)) (word_form word.CloseBracket))
 
 -- behind a name: a select, or nothing

@@ -85,8 +85,12 @@ item_form f = placed (λ at part. item at part.0 part.1) (item_parts f)
 abbrev pub case_items : Form Statement → Form (List CaseItem)
 case_items f = several (is_other word.Endcase) (item_form f)
 
+-- behind the value and the items
+abbrev pub cases_end : Expr → List CaseItem → Form StatementKind
+cases_end value xs = mapped (λ _. kind.Case value xs) (word_form word.Endcase)
+
 abbrev pub cases : Form Statement → Form StatementKind
-cases f = tested (λ value. then (case_items f) (λ xs. mapped (λ _. kind.Case value xs) (word_form word.Endcase)))
+cases f = tested (λ value. then (case_items f) (cases_end value))
 
 abbrev pub block : Form Statement → Form StatementKind
 block f = then label_form (λ name. then (repeated (is_other word.End) f []) (λ body. mapped (λ _. kind.Block name body) (word_form word.End)))

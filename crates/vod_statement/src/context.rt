@@ -1,7 +1,7 @@
 //! Where statements stand.
 
 /// Where a statement stands: what it assigns by, and how.
-#[derive(Clone, Copy, Debug, PartialEq, Eq)]
+#[derive(Clone, Copy, PartialEq, Eq)]
 pub enum Context {
     /// In an `always`: assignments are nonblocking, by `<=`.
     Always,

@@ -29,6 +29,7 @@ pub fn left_sides_are_exact()
     ensures deep { (n : ℕ) (front : List Lexeme) (t : Lexeme) → (lval_form n).deep front t → n ≤ length front }
     ensures starts { (ts : List Lexeme) (x : Lval) → IsLval ts x → (t : Lexeme) × (us : List Lexeme) × (ts ≡ t ∷ us) × (starts_lval t ≡ true) }
 {
+    // Words, names and expressions are read exactly, of which the form is made.
     phrases_are_exact();
 }
 
@@ -48,7 +49,9 @@ pub fn statements_are_exact()
     ensures starts { (c : Context) (open_ended : Bool) (ts : List Lexeme) (x : Statement) → IsStatement c open_ended ts x →
         (t : Lexeme) × (us : List Lexeme) × (ts ≡ t ∷ us) × (starts_statement t ≡ true) }
 {
+    // Words, names and expressions are read exactly, of which the form is made.
     phrases_are_exact();
+    // An expression has one answer, and is read whole before a token that ends it; none begins with any other token.
     one_answer();
     answer_before();
     none_begins();

@@ -6,12 +6,12 @@ ghost use Rattle.vod_grammar.specs.Read.{first, passes, repeat};
 ghost use Rattle.vod_grammar.specs.State.{left, Gives, GivesAs, IsOfSource};
 ghost use Rattle.vod_grammar.specs.Words.{is_word};
 ghost use Rattle.vod_grammar.specs.declared.word.Word.TheVariants.{Comma};
-ghost use Rattle.vod_statement.specs.LeftSideForm.{named, ranged, joined, lval_form, starts_lval};
+ghost use Rattle.vod_statement.specs.LeftSideForm.{named, range_end, ranged, joined, lval_form, starts_lval};
 
 use sqlite_items::Items;
 use vod_expr::ParseFault;
 use vod_grammar::{Reader, Word};
-use vod_tree::{Expr, Ident, Lval, LvalKind};
+use vod_tree::{Expr, Ident, Lval, LvalKind, let_go};
 
 /// A left side: a name, with a select or without one, or a concatenation of left sides. No more of them are nested than there
 /// are tokens.
@@ -128,14 +128,49 @@ fn ranged(reader: Reader<'_>, at: &mut usize, name: Ident, first: Expr) -> Resul
     requires { IsOfSource reader }
     ensures { Gives result (left reader.entry at.new) ((ranged name first).read (left reader.entry at.old)) }
 {
-    let place = name.place;
     let Some(_) = reader.takes(at, Word::Colon) else {
-        reader.word(at, Word::CloseBracket)?;
-        let kind = LvalKind::Index(name, first);
-        return Ok(Lval { place, kind });
+        return match reader.word(at, Word::CloseBracket) {
+            Ok(_) => {
+                let place = name.place;
+                let kind = LvalKind::Index(name, first);
+                Ok(Lval { place, kind })
+            }
+            Err(fault) => {
+                let_go(first);
+                Err(fault)
+            }
+        };
     };
-    let second = reader.expression(at)?;
-    reader.word(at, Word::CloseBracket)?;
-    let kind = LvalKind::Range(name, first, second);
-    Ok(Lval { place, kind })
+    match reader.expression(at) {
+        Ok(second) => range_end(reader, at, name, first, second),
+        Err(fault) => {
+            let_go(first);
+            Err(fault)
+        }
+    }
+}
+
+// Behind the name and the expressions of a select.
+fn range_end(
+    reader: Reader<'_>,
+    at: &mut usize,
+    name: Ident,
+    first: Expr,
+    second: Expr,
+) -> Result<Lval, ParseFault>
+    requires { IsOfSource reader }
+    ensures { Gives result (left reader.entry at.new) ((range_end name first second).read (left reader.entry at.old)) }
+{
+    match reader.word(at, Word::CloseBracket) {
+        Ok(_) => {
+            let place = name.place;
+            let kind = LvalKind::Range(name, first, second);
+            Ok(Lval { place, kind })
+        }
+        Err(fault) => {
+            let_go(first);
+            let_go(second);
+            Err(fault)
+        }
+    }
 }

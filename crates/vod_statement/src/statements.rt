@@ -5,7 +5,7 @@ ghost use Rattle.vod_grammar.specs.Read.{first, passes, repeat};
 ghost use Rattle.vod_grammar.specs.State.{left, Gives, GivesAs, IsOfSource};
 ghost use Rattle.vod_grammar.specs.Words.{is_other};
 ghost use Rattle.vod_grammar.specs.declared.word.Word.TheVariants.{End, Endcase};
-ghost use Rattle.vod_statement.specs.StatementForm.{alternatives, assigned, block, block_or_other, branches, case_items, case_or_other, cases, chosen, default_item, empty_or_assigned, item_form, item_parts, starts_statement, target_form, test_form, value_form, valued_item};
+ghost use Rattle.vod_statement.specs.StatementForm.{alternatives, assigned, block, block_or_other, branches, case_items, case_or_other, cases, cases_end, chosen, default_item, empty_or_assigned, item_form, item_parts, starts_statement, target_form, test_form, value_form, valued_item};
 ghost use Rattle.vod_statement.specs.Reading.{statement_in};
 ghost use Rattle.vod_statement.specs.declared.context.Context.TheVariants.{Always, Function};
 
@@ -15,7 +15,7 @@ use crate::sides::{is_left_side, left_side};
 use sqlite_items::{Boxed, Items};
 use vod_expr::ParseFault;
 use vod_grammar::{Reader, Word, expressions};
-use vod_tree::{CaseItem, CaseLabel, Expr, Lval, Statement, StatementKind};
+use vod_tree::{CaseItem, CaseLabel, Expr, Lval, Statement, StatementKind, let_go};
 
 /// How deeply statements may be nested: the body of an `always` or of a function has depth 1.
 const LIMIT: usize = 64;
@@ -167,8 +167,13 @@ fn nonblocking(reader: Reader<'_>, at: &mut usize) -> Result<StatementKind, Pars
     ensures { Gives result (left reader.entry at.new) ((assigned Always (length reader.entry.tokens.now)).read (left reader.entry at.old)) }
 {
     let target = target(reader, at, Word::LessEqual)?;
-    let value = value(reader, at)?;
-    Ok(StatementKind::Nonblocking(target, value))
+    match value(reader, at) {
+        Ok(value) => Ok(StatementKind::Nonblocking(target, value)),
+        Err(fault) => {
+            let_go(target);
+            Err(fault)
+        }
+    }
 }
 
 fn blocking(reader: Reader<'_>, at: &mut usize) -> Result<StatementKind, ParseFault>
@@ -176,8 +181,13 @@ fn blocking(reader: Reader<'_>, at: &mut usize) -> Result<StatementKind, ParseFa
     ensures { Gives result (left reader.entry at.new) ((assigned Function (length reader.entry.tokens.now)).read (left reader.entry at.old)) }
 {
     let target = target(reader, at, Word::Equals)?;
-    let value = value(reader, at)?;
-    Ok(StatementKind::Blocking(target, value))
+    match value(reader, at) {
+        Ok(value) => Ok(StatementKind::Blocking(target, value)),
+        Err(fault) => {
+            let_go(target);
+            Err(fault)
+        }
+    }
 }
 
 // A left side and the word behind it.
@@ -186,8 +196,13 @@ fn target(reader: Reader<'_>, at: &mut usize, word: Word) -> Result<Lval, ParseF
     ensures { Gives result (left reader.entry at.new) ((target_form (length reader.entry.tokens.now) word).read (left reader.entry at.old)) }
 {
     let target = left_side(reader, at)?;
-    reader.word(at, word)?;
-    Ok(target)
+    match reader.word(at, word) {
+        Ok(_) => Ok(target),
+        Err(fault) => {
+            let_go(target);
+            Err(fault)
+        }
+    }
 }
 
 // A value and `;`.
@@ -196,8 +211,13 @@ fn value(reader: Reader<'_>, at: &mut usize) -> Result<Expr, ParseFault>
     ensures { Gives result (left reader.entry at.new) (value_form.read (left reader.entry at.old)) }
 {
     let value = reader.expression(at)?;
-    reader.word(at, Word::Semicolon)?;
-    Ok(value)
+    match reader.word(at, Word::Semicolon) {
+        Ok(_) => Ok(value),
+        Err(fault) => {
+            let_go(value);
+            Err(fault)
+        }
+    }
 }
 
 // Behind `if`.
@@ -212,8 +232,13 @@ fn chosen(
     ensures { Gives result (left reader.entry at.new) ((chosen (statement_in reader.entry context depth)).read (left reader.entry at.old)) }
 {
     let test = tested(reader, at)?;
-    let (branch, other) = branches(reader, at, context, depth)?;
-    Ok(StatementKind::If(test, branch, other))
+    match branches(reader, at, context, depth) {
+        Ok((branch, other)) => Ok(StatementKind::If(test, branch, other)),
+        Err(fault) => {
+            let_go(test);
+            Err(fault)
+        }
+    }
 }
 
 // `( expr )`
@@ -223,8 +248,13 @@ fn tested(reader: Reader<'_>, at: &mut usize) -> Result<Expr, ParseFault>
 {
     reader.word(at, Word::OpenParen)?;
     let test = reader.expression(at)?;
-    reader.word(at, Word::CloseParen)?;
-    Ok(test)
+    match reader.word(at, Word::CloseParen) {
+        Ok(_) => Ok(test),
+        Err(fault) => {
+            let_go(test);
+            Err(fault)
+        }
+    }
 }
 
 // A statement, and `else` and another one or nothing.
@@ -274,9 +304,33 @@ fn cases(
     ensures { Gives result (left reader.entry at.new) ((cases (statement_in reader.entry context depth)).read (left reader.entry at.old)) }
 {
     let value = tested(reader, at)?;
-    let items = case_items(reader, at, context, depth)?;
-    reader.word(at, Word::Endcase)?;
-    Ok(StatementKind::Case(value, items))
+    match case_items(reader, at, context, depth) {
+        Ok(items) => cases_end(reader, at, value, items),
+        Err(fault) => {
+            let_go(value);
+            Err(fault)
+        }
+    }
+}
+
+// Behind the value and the items of a `case`.
+fn cases_end(
+    reader: Reader<'_>,
+    at: &mut usize,
+    value: Expr,
+    items: Items<CaseItem>,
+) -> Result<StatementKind, ParseFault>
+    requires { IsOfSource reader }
+    ensures { Gives result (left reader.entry at.new) ((cases_end value items).read (left reader.entry at.old)) }
+{
+    match reader.word(at, Word::Endcase) {
+        Ok(_) => Ok(StatementKind::Case(value, items)),
+        Err(fault) => {
+            let_go(value);
+            let_go(items);
+            Err(fault)
+        }
+    }
 }
 
 // One item or more.
@@ -381,8 +435,13 @@ fn valued_item(
 {
     let values = expressions(reader, at)?;
     reader.word(at, Word::Colon)?;
-    let body = nested(reader, at, context, depth)?;
-    Ok((CaseLabel::Values(values), body))
+    match nested(reader, at, context, depth) {
+        Ok(body) => Ok((CaseLabel::Values(values), body)),
+        Err(fault) => {
+            let_go(values);
+            Err(fault)
+        }
+    }
 }
 
 // Behind `begin`.

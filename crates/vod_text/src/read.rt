@@ -7,13 +7,24 @@ ghost use Rattle.std.specs.Option.{SomeIff};
 ghost use Rattle.std.specs.Str.Parse.{digits_value};
 ghost use Rattle.vod_text.specs.Numeral.{IsDecimal, IsHexadecimal, IsBased, IsFirstWrong, based_value, digits_len, based_len, answer_of, decimal_of, hexadecimal_of, based_of, is_further};
 
+use std::fmt;
+
 /// Why a text is no number.
-#[derive(Clone, Copy, Debug, PartialEq, Eq)]
+#[derive(Clone, Copy, PartialEq, Eq)]
 pub enum NumberFault {
     /// The text isn't of the form: at its first wrong byte, or at its length where it ends too early.
     Spelling { at: usize },
     /// The text is of the form, and its value is too large.
     Range,
+}
+
+impl fmt::Display for NumberFault {
+    fn fmt<W: fmt::Write>(&self, f: &mut fmt::Formatter<W>) -> fmt::Result {
+        match self {
+            NumberFault::Spelling { at } => write!(f, "a digit was expected at byte {at}"),
+            NumberFault::Range => f.write_str("the value is past the greatest that is allowed"),
+        }
+    }
 }
 
 /// The value of 1 to 19 decimal digits, where it is at most `max`.

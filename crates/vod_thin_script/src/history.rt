@@ -11,7 +11,7 @@ use std::marker::Model;
 use vod_design::thin::{Bit, Design, Input, Vector};
 
 /// Why a vector isn't added.
-#[derive(Clone, Copy, Debug, PartialEq, Eq)]
+#[derive(Clone, Copy, PartialEq, Eq)]
 pub enum AddFault {
     /// It isn't lawful behind those before it.
     Refused,

@@ -11,14 +11,31 @@ mod script;
 pub use history::{AddFault, History};
 pub use script::{one_reading, one_refusal, read_script};
 use std::alloc::{AllocError, AllocFailed};
+use std::fmt;
 
 /// Why a script isn't read.
-#[derive(Clone, Copy, Debug, PartialEq, Eq)]
+#[derive(Clone, Copy, PartialEq, Eq)]
 pub enum ScriptFault {
     /// The first line that breaks a rule, from 1; 0 where the script has more than 1,048,576 bytes.
     Refused { line: u64 },
     /// There was no memory.
     Memory,
+}
+
+impl fmt::Display for ScriptFault {
+    fn fmt<W: fmt::Write>(&self, f: &mut fmt::Formatter<W>) -> fmt::Result {
+        match self {
+            ScriptFault::Refused { line: 0 } => write!(
+                f,
+                "the script is longer than 1,048,576 bytes"
+            ),
+            ScriptFault::Refused { line } => write!(
+                f,
+                "line {line} isn't that of a vector that may stand there"
+            ),
+            ScriptFault::Memory => write!(f, "out of memory"),
+        }
+    }
 }
 
 impl From<AllocError> for ScriptFault {

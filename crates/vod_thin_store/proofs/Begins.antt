@@ -51,9 +51,9 @@ module _ (laws : FrameLaws) (source : List ℕ) (short : length source ≤ 2 ^ 2
       },
     )
 
-    pub head-stops : (new : View) → (Continues last bytes → Leaves old new (From old.may_leave (HoldsEither (committed old.bytes) (appended (committed old.bytes) gate bytes)))) →
+    pub head-crashes : (new : View) → (Continues last bytes → Leaves old new (From old.may_leave (HoldsEither (committed old.bytes) (appended (committed old.bytes) gate bytes)))) →
         ((Continues last bytes → ⊥) → new ≡ old) → Leaves old new (From old.may_leave (Records d source vs))
-    head-stops new appends stays = by_last last refl
+    head-crashes new appends stays = by_last last refl
       where
         step : Continues last bytes → (e c : Outcome) → e.file ≡ old.bytes → HoldsEither (committed old.bytes) (appended (committed old.bytes) gate bytes) e c → Records d source vs e c
         step goes_on e c file either = by_file either.file
@@ -79,8 +79,8 @@ module _ (laws : FrameLaws) (source : List ℕ) (short : length source ≤ 2 ^ 2
           let before : HasTextOf old.may_leave from.0 = texts from.0 from.1 in
           (before.origin, before.was, from.2 ∙ ap (λ xs. xs ++ text) before.text)
 
-      pub all-stops : Leaves old mid (From old.may_leave (Records d source vs)) → Leaves mid new (From mid.may_leave (Adds d source vs)) → Leaves old new (From old.may_leave (Records d source vs))
-      all-stops first second =
+      pub all-crashes : Leaves old mid (From old.may_leave (Records d source vs)) → Leaves mid new (From mid.may_leave (Adds d source vs)) → Leaves old new (From old.may_leave (Records d source vs))
+      all-crashes first second =
           leaves-then old mid new (From old.may_leave (Records d source vs)) first
           (leaves-wider mid new (From mid.may_leave (Adds d source vs)) (From old.may_leave (Records d source vs)) second
           (λ c from.

@@ -36,9 +36,9 @@ module _ (old mid new : View) (text : List ℕ) (texts : (c : Outcome) → mid.m
       let before : HasTextOf old.may_leave from.0 = texts from.0 from.1 in
       (before.origin, before.was, from.2.said ∙ ap (λ xs. xs ++ text) before.text)
 
-  pub commits-stops : (one two : Reading) → Leaves old mid (From old.may_leave (HoldsEither one two)) → committed mid.bytes ≡ two → Only mid.bytes mid.may_leave →
+  pub commits-crashes : (one two : Reading) → Leaves old mid (From old.may_leave (HoldsEither one two)) → committed mid.bytes ≡ two → Only mid.bytes mid.may_leave →
       Elapses mid new (Says mid.may_leave text) → Leaves old new (From old.may_leave (Commits one two text))
-  commits-stops one two leaves held lasts time =
+  commits-crashes one two leaves held lasts time =
       leaves-call old mid new (From old.may_leave (Commits one two text)) (Says mid.may_leave text)
       (leaves-wider old mid (From old.may_leave (HoldsEither one two)) (From old.may_leave (Commits one two text)) leaves (λ c from. (from.0, from.1, inl from.2))) time
       (λ c from.

@@ -198,9 +198,9 @@ module _ (d : Netlist) (vs : List Vector) (known : Option ℕ) (script : IsScrip
           subst (λ t. Leaves old new (From old.may_leave (Commits (committed old.bytes) (appended (committed old.bytes) gate frame) t))) text-is
           (subst (λ f. Leaves old new (From old.may_leave (Commits (committed old.bytes) (appended (committed old.bytes) gate f) text))) bytes-are leaves)
 
-      pub stops-more : Leaves entry new (From entry.may_leave (Adds d source vs))
-      stops-more =
-          leaves-then entry old new (From entry.may_leave (Adds d source vs)) stored.stops
+      pub crashes-more : Leaves entry new (From entry.may_leave (Adds d source vs))
+      crashes-more =
+          leaves-then entry old new (From entry.may_leave (Adds d source vs)) stored.crashes
           (leaves-wider old new (From old.may_leave (Commits (committed old.bytes) (appended (committed old.bytes) gate frame) line)) (From entry.may_leave (Adds d source vs)) leaves-same
           (λ c from.
           let before : From entry.may_leave (HasSaid (said front)) from.0 = stored.outcomes from.0 from.1 in
@@ -219,5 +219,5 @@ module _ (d : Netlist) (vs : List Vector) (known : Option ℕ) (script : IsScrip
               from.2 ∙ ap (λ xs. xs ++ text) before.2 ∙ append_assoc before.0.said (said front) text
                   ∙ ap (λ xs. before.0.said ++ xs) (ap (λ xs. said front ++ xs) text-is ∙ sym (ap (λ xs. said xs) take-more ∙ said-is)),
             );
-        stops = stops-more;
+        crashes = crashes-more;
       }

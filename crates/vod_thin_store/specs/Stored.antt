@@ -1,4 +1,4 @@
--- What is recorded of vectors, and what a stop leaves.
+-- What is recorded of vectors, and what a crash leaves.
 use Rattle.std.specs.Prelude.{◌≡◌, ℕ, ◌≤◌, nat_le, List, ◌++◌, length, take, Option, None, Some, ◌⊎◌, if◌then◌else◌}
 use Rattle.vod_deck.specs.Outcomes.{Outcome, View, From, Leaves}
 use Rattle.vod_design.specs.declared.thin.Vector.{Vector}
@@ -33,7 +33,7 @@ pub record HoldsFirst (d : Netlist) (source : List ℕ) (vs : List Vector) (e c 
 abbrev pub Adds : Netlist → List ℕ → List Vector → Outcome → Outcome → Type 0
 Adds d source vs e c = (k : ℕ) × HoldsFirst d source vs e c k
 
--- what a stop leaves while vectors are recorded, from an outcome at entry
+-- what a crash leaves while vectors are recorded, from an outcome at entry
 abbrev pub Records : Netlist → List ℕ → List Vector → Outcome → Outcome → Type 0
 Records d source vs e c = IsAsBefore e c ⊎ Adds d source vs e c
 
@@ -58,9 +58,9 @@ pub record EndsWith (d : Netlist) (vs : List Vector) (last : Option Header) : Ty
   pub is : last ≡ Some header
   pub has_counts : counts_of (Some header) ≡ counts d vs
 
--- a deck holds a log of the first k vectors, all of them acknowledged since the entry, and what a stop left since
+-- a deck holds a log of the first k vectors, all of them acknowledged since the entry, and what a crash left since
 pub record HasStored (d : Netlist) (source : List ℕ) (vs : List Vector) (k : ℕ) (entry now : View) (gate : ℕ) (last : Option Header) : Type 0 where
   pub held : IsHeld d source 4096 (take k vs) now.bytes
   pub settled : IsSettled now gate last
   pub outcomes : (c : Outcome) → now.may_leave c → From entry.may_leave (HasSaid (said (take k vs))) c
-  pub stops : Leaves entry now (From entry.may_leave (Adds d source vs))
+  pub crashes : Leaves entry now (From entry.may_leave (Adds d source vs))

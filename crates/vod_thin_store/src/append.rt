@@ -22,7 +22,7 @@ fn append<L: Deck>(deck: &mut L, tail: &mut Tail, frame: &[u8]) -> Result<(), Fa
     ensures tail { OnOk result (tail.new ≡ record { gate = tail.old.gate + length frame.now; last = Some (frame_header frame.now); broken = false }) }
     ensures held { OnOk result (L.tells → committed (L.view deck.new).bytes ≡ appended (committed (L.view deck.old).bytes) tail.old.gate frame.now) }
     ensures settled { OnOk result (L.tells → IsSettled (L.view deck.new) tail.new.gate tail.new.last) }
-    ensures stops { L.tells → Leaves (L.view deck.old) (L.view deck.new)
+    ensures crashes { L.tells → Leaves (L.view deck.old) (L.view deck.new)
         (From (L.view deck.old).may_leave (HoldsEither (committed (L.view deck.old).bytes) (appended (committed (L.view deck.old).bytes) tail.old.gate frame.now))) }
     ensures caused { HasCause (L.view deck.old).faults (L.view deck.new).faults result }
 {
@@ -40,7 +40,7 @@ pub fn append_head<L: Deck>(deck: &mut L, tail: &mut Tail, frame: &[u8]) -> Resu
     ensures tail { OnOk result (tail.new ≡ record { gate = tail.old.gate + length frame.now; last = Some (frame_header frame.now); broken = false }) }
     ensures held { OnOk result (L.tells → committed (L.view deck.new).bytes ≡ appended (committed (L.view deck.old).bytes) tail.old.gate frame.now) }
     ensures settled { OnOk result (L.tells → IsSettled (L.view deck.new) tail.new.gate tail.new.last) }
-    ensures stops { L.tells → Continues tail.old.last frame.now → Leaves (L.view deck.old) (L.view deck.new)
+    ensures crashes { L.tells → Continues tail.old.last frame.now → Leaves (L.view deck.old) (L.view deck.new)
         (From (L.view deck.old).may_leave (HoldsEither (committed (L.view deck.old).bytes) (appended (committed (L.view deck.old).bytes) tail.old.gate frame.now))) }
     ensures not_empty { IsErrOf result NotEmpty → Continues tail.old.last frame.now → ⊥ }
     ensures untouched { (Continues tail.old.last frame.now → ⊥) → deck.new ≡ deck.old }
@@ -68,7 +68,7 @@ pub fn commit<L: Deck>(
     ensures held { OnOk result (L.tells → committed (L.view deck.new).bytes ≡ appended (committed (L.view deck.old).bytes) tail.old.gate frame.now) }
     ensures settled { OnOk result (L.tells → IsSettled (L.view deck.new) tail.new.gate tail.new.last) }
     ensures said { OnOk result (L.tells → (c : Outcome) → (L.view deck.new).may_leave c → From (L.view deck.old).may_leave (HasSaid (ack after.vectors after.last)) c) }
-    ensures stops { L.tells → Leaves (L.view deck.old) (L.view deck.new)
+    ensures crashes { L.tells → Leaves (L.view deck.old) (L.view deck.new)
         (From (L.view deck.old).may_leave (Commits (committed (L.view deck.old).bytes) (appended (committed (L.view deck.old).bytes) tail.old.gate frame.now) (ack after.vectors after.last))) }
     ensures caused { HasCause (L.view deck.old).faults (L.view deck.new).faults result }
 {

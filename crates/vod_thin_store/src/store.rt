@@ -42,7 +42,7 @@ pub fn record<L: Deck>(
     ensures held { OnOk result (L.tells → IsSound design.now source.now 4096 vectors.now (L.view deck.new).bytes) }
     ensures lasts { OnOk result (L.tells → Only (L.view deck.new).bytes (L.view deck.new).may_leave) }
     ensures said { OnOk result (L.tells → (c : Outcome) → (L.view deck.new).may_leave c → From (L.view deck.old).may_leave (HasSaid (said vectors.now)) c) }
-    ensures stops { L.tells → Leaves (L.view deck.old) (L.view deck.new) (From (L.view deck.old).may_leave (Records design.now source.now vectors.now)) }
+    ensures crashes { L.tells → Leaves (L.view deck.old) (L.view deck.new) (From (L.view deck.old).may_leave (Records design.now source.now vectors.now)) }
     ensures begins { OnOk result (tail.last ≡ None) }
     ensures not_empty { IsErrOf result NotEmpty → tail.last ≡ None → ⊥ }
     ensures untouched { IsErrOf result NotEmpty → deck.new ≡ deck.old }
@@ -128,7 +128,7 @@ fn append_batches<L: Deck>(
     ensures held { OnOk result (L.tells → IsHeld design.now source.now 4096 vectors.now (L.view deck.new).bytes) }
     ensures lasts { OnOk result (L.tells → Only (L.view deck.new).bytes (L.view deck.new).may_leave) }
     ensures said { OnOk result (L.tells → (c : Outcome) → (L.view deck.new).may_leave c → From (L.view deck.old).may_leave (HasSaid (said vectors.now)) c) }
-    ensures stops { L.tells → Leaves (L.view deck.old) (L.view deck.new) (From (L.view deck.old).may_leave (Adds design.now source.now vectors.now)) }
+    ensures crashes { L.tells → Leaves (L.view deck.old) (L.view deck.new) (From (L.view deck.old).may_leave (Adds design.now source.now vectors.now)) }
     ensures not_empty { IsErrOf result NotEmpty → ⊥ }
     ensures later { (L.view deck.old).faults ≤ (L.view deck.new).faults }
     ensures caused { IsErrOf result DeckFault → Rose (L.view deck.old).faults (L.view deck.new).faults }

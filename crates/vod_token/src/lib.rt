@@ -19,10 +19,11 @@ pub use cut::{one_form, one_reading, tokens};
 pub use lexeme::{longest_token, one_token};
 pub use nesting::first_too_deep;
 use std::alloc::{AllocError, AllocFailed};
+use std::fmt;
 pub use value::{Literal, literal_of, one_literal};
 
 /// A stretch of the source that is one token: `source[start..end]`.
-#[derive(Clone, Copy, Debug, PartialEq, Eq)]
+#[derive(Clone, Copy, PartialEq, Eq)]
 pub struct Token {
     pub kind: TokenKind,
     pub start: u32,
@@ -30,7 +31,7 @@ pub struct Token {
 }
 
 /// What a token is; its spelling is its stretch of the source.
-#[derive(Clone, Copy, Debug, PartialEq, Eq)]
+#[derive(Clone, Copy, PartialEq, Eq)]
 pub enum TokenKind {
     /// An identifier (IEEE 1364-2005, 3.7).
     Name,
@@ -45,7 +46,7 @@ pub enum TokenKind {
 }
 
 /// Why a source is refused, with the place of the token in bytes.
-#[derive(Clone, Copy, Debug, PartialEq, Eq)]
+#[derive(Clone, Copy, PartialEq, Eq)]
 pub enum LexFault {
     /// The bytes hold no token there.
     At(u32),
@@ -64,6 +65,24 @@ pub const LITERAL_BITS: u32 = 64;
 
 /// The greatest nesting of brackets and operators.
 pub const NESTING: u32 = 64;
+
+impl fmt::Display for LexFault {
+    fn fmt<W: fmt::Write>(&self, f: &mut fmt::Formatter<W>) -> fmt::Result {
+        match self {
+            LexFault::At(place) => write!(f, "no token begins at byte {place}"),
+            LexFault::Name(place) => write!(f, "a name is longer than 1,024 bytes at byte {place}"),
+            LexFault::Literal(place) => write!(
+                f,
+                "a number needs more than 64 bits at byte {place}"
+            ),
+            LexFault::Nesting(place) => write!(
+                f,
+                "brackets and operators are nested past 64 at byte {place}"
+            ),
+            LexFault::Memory => write!(f, "out of memory"),
+        }
+    }
+}
 
 impl From<AllocError> for LexFault {
     ghost use Rattle.vod_token.specs.declared.LexFault.TheVariants.{Memory};

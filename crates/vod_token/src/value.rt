@@ -15,7 +15,7 @@ use crate::number::{byte_at, digits_behind, sign_len, size_of};
 use vod_text::based;
 
 /// A number: its size in bits, 1 to `LITERAL_BITS`, whether it is signed, and its value, which is below 2^size.
-#[derive(Clone, Copy, Debug, PartialEq, Eq)]
+#[derive(Clone, Copy, PartialEq, Eq)]
 pub struct Literal {
     pub size: u8,
     pub signed: bool,

@@ -107,7 +107,7 @@ pub struct VariableDeclaration {
 #[derive(Drop)]
 pub enum Register {
     Value(Value),
-    Memory(Ident, Range),
+    Ram(Ident, Range),
 }
 
 /// `reg` as an item of a module.

@@ -3,7 +3,7 @@ use crate::{Ident, Number};
 use sqlite_items::{Boxed, Items};
 
 /// An operator before its operand (5.1).
-#[derive(Clone, Copy, Debug, PartialEq, Eq)]
+#[derive(Clone, Copy, PartialEq, Eq)]
 pub enum UnaryOp {
     /// `-`
     Minus,
@@ -28,7 +28,7 @@ pub enum UnaryOp {
 }
 
 /// An operator between two operands, from the strongest on (5.1.2).
-#[derive(Clone, Copy, Debug, PartialEq, Eq)]
+#[derive(Clone, Copy, PartialEq, Eq)]
 pub enum BinaryOp {
     /// `*`
     Mul,

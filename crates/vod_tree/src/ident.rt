@@ -5,7 +5,7 @@ use std::alloc::{AllocError, Global};
 use std::marker::Model;
 
 /// The bytes of an identifier, which contracts see as their list.
-#[derive(Debug, Drop)]
+#[derive(Drop)]
 pub struct Name {
     bytes: Vec<u8>,
 }
@@ -34,7 +34,7 @@ impl Name {
 }
 
 /// An identifier and its place (IEEE 1364-2005, 3.7).
-#[derive(Debug, Drop)]
+#[derive(Drop)]
 pub struct Ident {
     pub place: u32,
     pub name: Name,
@@ -42,7 +42,7 @@ pub struct Ident {
 
 /// A number (3.5.1): its size in bits, 1 to 64, whether it is signed, and its value, which is below 2^size; the upper bits of
 /// digits that need more are lost.
-#[derive(Clone, Copy, Debug, PartialEq, Eq)]
+#[derive(Clone, Copy, PartialEq, Eq)]
 pub struct Number {
     pub place: u32,
     pub size: u8,

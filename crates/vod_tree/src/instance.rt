@@ -3,7 +3,7 @@ use crate::{Expr, Ident};
 use sqlite_items::Items;
 
 /// What a gate computes (7.2, 7.3).
-#[derive(Clone, Copy, Debug, PartialEq, Eq)]
+#[derive(Clone, Copy, PartialEq, Eq)]
 pub enum GateKind {
     And,
     Nand,

@@ -91,7 +91,7 @@ pub struct Module {
 }
 
 /// The count of a time (19.8).
-#[derive(Clone, Copy, Debug, PartialEq, Eq)]
+#[derive(Clone, Copy, PartialEq, Eq)]
 pub enum TimeCount {
     One,
     Ten,
@@ -99,7 +99,7 @@ pub enum TimeCount {
 }
 
 /// The unit of a time: `s`, `ms`, `us`, `ns`, `ps` or `fs`.
-#[derive(Clone, Copy, Debug, PartialEq, Eq)]
+#[derive(Clone, Copy, PartialEq, Eq)]
 pub enum TimeUnit {
     S,
     Ms,
@@ -110,28 +110,28 @@ pub enum TimeUnit {
 }
 
 /// A time, as `10 ns`.
-#[derive(Clone, Copy, Debug, PartialEq, Eq)]
+#[derive(Clone, Copy, PartialEq, Eq)]
 pub struct Time {
     pub count: TimeCount,
     pub unit: TimeUnit,
 }
 
 /// What a name without declaration is: refused, or a net (19.2).
-#[derive(Clone, Copy, Debug, PartialEq, Eq)]
+#[derive(Clone, Copy, PartialEq, Eq)]
 pub enum NetType {
     None,
     Wire,
 }
 
 /// The alternatives of a directive: the unit and the precision of times, or the default type of nets.
-#[derive(Clone, Copy, Debug, PartialEq, Eq)]
+#[derive(Clone, Copy, PartialEq, Eq)]
 pub enum DirectiveKind {
     Timescale(Time, Time),
     DefaultNettype(NetType),
 }
 
 /// A directive and its place.
-#[derive(Clone, Copy, Debug, PartialEq, Eq)]
+#[derive(Clone, Copy, PartialEq, Eq)]
 pub struct Directive {
     pub place: u32,
     pub kind: DirectiveKind,

@@ -73,7 +73,7 @@ pub enum CaseLabel {
 }
 
 /// The edge of an event (9.7.2).
-#[derive(Clone, Copy, Debug, PartialEq, Eq)]
+#[derive(Clone, Copy, PartialEq, Eq)]
 pub enum Edge {
     Posedge,
     Negedge,
@@ -88,7 +88,7 @@ pub struct Event {
 }
 
 /// `or` or `,` between two events.
-#[derive(Clone, Copy, Debug, PartialEq, Eq)]
+#[derive(Clone, Copy, PartialEq, Eq)]
 pub enum Separator {
     Or,
     Comma,

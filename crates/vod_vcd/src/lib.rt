@@ -11,7 +11,7 @@ use std::alloc::AllocError;
 pub use writer::Writer;
 
 /// The refusal for want of memory.
-#[derive(Clone, Copy, Debug, PartialEq, Eq)]
+#[derive(Clone, Copy, PartialEq, Eq)]
 pub struct Memory;
 
 impl From<AllocError> for Memory {

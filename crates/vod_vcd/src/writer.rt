@@ -14,7 +14,7 @@ use vod_design::thin::{Bit, Design};
 use vod_io::{Failed, Sink, put_all};
 
 // What was written last: the values shown, and the time printed.
-#[derive(Debug, Drop)]
+#[derive(Drop)]
 struct Last {
     values: Vec<Bit>,
     time: u64,
@@ -34,7 +34,7 @@ impl Last {
 
 /// Writes a dump (IEEE 1364-2005, 18.2) in four calls: the header, the opening, each slot, the close.
 /// Only `new` takes memory. After `Failed` the sink took a prefix of what the call writes.
-#[derive(Debug, Drop)]
+#[derive(Drop)]
 pub struct Writer {
     header: Vec<u8>,
     last: Last,

@@ -14,8 +14,8 @@ use Rattle.vod_design.specs.Values.{bounded, at_size}
 use Rattle.vod_design.specs.declared.sized.SizedKind.TheVariants as kind
 use Rattle.vod_operand.specs.declared.fault.Fault.{Fault}
 use Rattle.vod_operand.specs.declared.fault.Fault.TheVariants.{Width}
-use Rattle.vod_operand.specs.Operands.{Looked, node, first, at_place, look_number}
-use Rattle.vod_operand.specs.Found.{TreeIs, Sees, Saw, looked_of, beside_of, at_place_of, join}
+use Rattle.vod_operand.specs.Operands.{Looked, node, first, at_place, look_number, join}
+use Rattle.vod_operand.specs.Found.{TreeIs, Sees, Saw, looked_of, beside_of, at_place_of}
 use Rattle.vod_operand.specs.FaultLaws.{first_append, first_nothing}
 use Rattle.vod_operand.specs.FoundLaws.{sees_of}
 use Rattle.vod_operand.specs.declared.tree.Looked as code
@@ -77,7 +77,7 @@ literal_sees c n e = kind_sees c (look_number n) (sees_of c (look_number n) (bou
 pub named_sees : (c : code.Looked) (place : ℕ) (d : Option Declared) → c ≡ named_of place d → SeesKind c (look_name place d)
 named_sees c place (Some (stands.Vector v)) e =
     kind_sees c (look_name place (Some (stands.Vector v))) (sees_of c (look_name place (Some (stands.Vector v))) (min v.width 65) v.signed (is_constant v.name) (Ok (node 0 false (kind.Name v.name))) e refl refl refl refl (refl, refl))
-named_sees c place (Some (stands.Memory m)) e = kind_sees c (look_name place (Some (stands.Memory m))) (misused_sees c place None [] e refl)
+named_sees c place (Some (stands.Ram m)) e = kind_sees c (look_name place (Some (stands.Ram m))) (misused_sees c place None [] e refl)
 named_sees c place (Some (stands.Function f)) e = kind_sees c (look_name place (Some (stands.Function f))) (misused_sees c place None [] e refl)
 named_sees c place None e = kind_sees c (look_name place None) (misused_sees c place None [] e refl)
 

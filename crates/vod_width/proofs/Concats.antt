@@ -12,8 +12,8 @@ use Rattle.vod_design.specs.declared.sized.SizedExpr.{SizedExpr}
 use Rattle.vod_design.specs.declared.statement.Size.{Size}
 use Rattle.vod_design.specs.declared.sized.SizedKind.TheVariants as kind
 use Rattle.vod_operand.specs.declared.fault.Fault.{Fault}
-use Rattle.vod_operand.specs.Operands.{Looked, node, own, first, number_where, unless}
-use Rattle.vod_operand.specs.Found.{TreeIs, SeesAs, Sees, Saw, looked_of, join}
+use Rattle.vod_operand.specs.Operands.{Looked, node, own, first, number_where, unless, join}
+use Rattle.vod_operand.specs.Found.{TreeIs, SeesAs, Sees, Saw, looked_of}
 use Rattle.vod_operand.specs.FaultLaws.{first_append}
 use Rattle.vod_operand.specs.FoundLaws.{tree_moved, passed, sees_of}
 use Rattle.vod_operand.specs.declared.tree.Looked as code
@@ -156,7 +156,7 @@ pub call_sees : (c : code.Looked) (place : ℕ) (d : Option Declared) (ts : Resu
 call_sees c place (Some (stands.Function f)) ts ys e h =
     sees_of c (look_call place (Some (stands.Function f)) ys) (min f.width 65) f.signed false (call_tree_of f.number ts) e refl refl refl refl (call_tree_is f.number ts (first (faults_of ys)) (sized_arguments f.inputs ys) h)
 call_sees c place (Some (stands.Vector v)) ts ys e h = misused_sees c place (fault_of_trees ts) (faults_of ys) e (trees_fault ts (first (faults_of ys)) (sized_arguments [] ys) h)
-call_sees c place (Some (stands.Memory m)) ts ys e h = misused_sees c place (fault_of_trees ts) (faults_of ys) e (trees_fault ts (first (faults_of ys)) (sized_arguments [] ys) h)
+call_sees c place (Some (stands.Ram m)) ts ys e h = misused_sees c place (fault_of_trees ts) (faults_of ys) e (trees_fault ts (first (faults_of ys)) (sized_arguments [] ys) h)
 call_sees c place None ts ys e h = misused_sees c place (fault_of_trees ts) (faults_of ys) e (trees_fault ts (first (faults_of ys)) (sized_arguments [] ys) h)
 
 pub argument_sees : (c x : code.Looked) (y : Looked) (least w : ℕ) (s : Bool) → SeesAs c y (y.sized w s) → Saw x y → w ≡ max least x.width → s ≡ x.signed → SeesAs c y (y.sized (max least y.width) y.signed)

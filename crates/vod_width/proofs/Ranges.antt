@@ -5,9 +5,9 @@ use Rattle.vod_design.specs.declared.sized.SizedExpr.{SizedExpr}
 use Rattle.vod_design.specs.declared.sized.SizedKind.TheVariants as kind
 use Rattle.vod_operand.specs.declared.fault.Fault.{Fault}
 use Rattle.vod_operand.specs.declared.fault.Fault.TheVariants.{Rule}
-use Rattle.vod_operand.specs.Operands.{Looked, first, sooner, place_of, number_where, unless}
-use Rattle.vod_operand.specs.Found.{TreeIs, Sees, looked_of, fault_of, fault_if, join, tree_unless}
-use Rattle.vod_operand.specs.FaultLaws.{first_append, join_none, some_cond}
+use Rattle.vod_operand.specs.Operands.{Looked, first, number_where, unless, join}
+use Rattle.vod_operand.specs.Found.{TreeIs, Sees, looked_of, fault_of, fault_if, tree_unless}
+use Rattle.vod_operand.specs.FaultLaws.{first_append, join_none}
 use Rattle.vod_operand.specs.FoundLaws.{passed, unless_is, sees_of}
 use Rattle.vod_operand.specs.declared.tree.Looked as code
 use Rattle.vod_width.specs.declared.decls.Declared.{Declared}
@@ -22,8 +22,8 @@ fault_is (Ok t) f u h = sym h.0
 fault_is (Err e) f u h = sym h
 
 misused_by : (place : ℕ) (beside : Option Fault) (fs : List Fault) → beside ≡ first fs → TreeIs (misused_tree place beside) (first (Rule place ∷ fs)) ((misused place fs).sized 0 false)
-misused_by place None fs b = ap (sooner (Rule place)) (sym b)
-misused_by place (Some g) fs b = ap (sooner (Rule place)) (sym b) ∙ some_cond (nat_lt (place_of g) (place_of (Rule place))) (Rule place) g
+misused_by place None fs b = ap (join (Some (Rule place))) (sym b)
+misused_by place (Some g) fs b = ap (join (Some (Rule place))) (sym b)
 
 pub misused_sees : (c : code.Looked) (place : ℕ) (beside : Option Fault) (fs : List Fault) → c ≡ looked_of 0 0 false false (misused_tree place beside) → beside ≡ first fs → Sees c (misused place fs)
 misused_sees c place beside fs e b = sees_of c (misused place fs) 0 false false (misused_tree place beside) e refl refl refl refl (misused_by place beside fs b)
@@ -86,12 +86,12 @@ range_tree v x y msb lsb count low fault t mm ll f n l small e =
 -- a part select by what its name stands for
 pub range_of_vector : (place : ℕ) (d : Option Declared) (v : Vector) (x y : Looked) → Some v ≡ vector_of d → look_range 0 (Some (stands.Vector v)) x y ≡ look_range place d x y
 range_of_vector place (Some (stands.Vector w)) v x y e = let same : v ≡ w = cc in ap (λ z. look_range 0 (Some (stands.Vector z)) x y) same
-range_of_vector place (Some (stands.Memory m)) v x y e = absurd (cc)
+range_of_vector place (Some (stands.Ram m)) v x y e = absurd (cc)
 range_of_vector place (Some (stands.Function f)) v x y e = absurd (cc)
 range_of_vector place None v x y e = absurd (cc)
 
 pub range_of_other : (place : ℕ) (d : Option Declared) (x y : Looked) → None ≡ vector_of d → misused place (x.faults ++ y.faults) ≡ look_range place d x y
 range_of_other place (Some (stands.Vector w)) x y e = absurd (cc)
-range_of_other place (Some (stands.Memory m)) x y e = refl
+range_of_other place (Some (stands.Ram m)) x y e = refl
 range_of_other place (Some (stands.Function f)) x y e = refl
 range_of_other place None x y e = refl

@@ -10,8 +10,8 @@ use Rattle.vod_design.specs.declared.sized.SizedExpr.{SizedExpr}
 use Rattle.vod_design.specs.Run.{eval, nothing}
 use Rattle.vod_operand.specs.declared.fault.Fault.{Fault}
 use Rattle.vod_operand.specs.declared.fault.Fault.TheVariants.{Rule, Width}
-use Rattle.vod_operand.specs.Operands.{Looked, own, place_of, sooner, first, are_none, is_sound, value}
-use Rattle.vod_operand.specs.Found.{SeesAs, IsNarrow, join}
+use Rattle.vod_operand.specs.Operands.{Looked, own, place_of, first, are_none, is_sound, value, join}
+use Rattle.vod_operand.specs.Found.{SeesAs, IsNarrow}
 use Rattle.vod_operand.specs.FaultLaws.{first_append, unsound, first_nothing}
 use Rattle.vod_operand.specs.FoundLaws.{here, gone}
 use Rattle.vod_operand.specs.declared.tree.Looked as code
@@ -81,11 +81,11 @@ constant_here r c y e t h known =
     known_is r y found.0 (subst D h.place (subst C h.signed (subst B h.constant (subst A found.1 known))))
 
 -- the first fault is the least
-least_if : (t : Bool) (x g : Fault) (n : ℕ) → t ≡ nat_lt (place_of g) (place_of x) → IfSome (cond t (Some g) (Some x)) (λ f. n ≤ place_of f) → (n ≤ place_of x) × (n ≤ place_of g)
+least_if : (t : Bool) (x g : Fault) (n : ℕ) → t ≡ nat_lt (place_of g) (place_of x) → n ≤ place_of (cond t g x) → (n ≤ place_of x) × (n ≤ place_of g)
 least_if true x g n e h = (grind (arith, nat_tests), h)
 least_if false x g n e h = (h, grind (arith, nat_tests))
 
-least_step : (x : Fault) (fs : List Fault) (n : ℕ) (o : Option Fault) → (IfSome o (λ g. n ≤ place_of g) → All (λ g. n ≤ place_of g) fs) → IfSome (sooner x o) (λ g. n ≤ place_of g) → All (λ g. n ≤ place_of g) (x ∷ fs)
+least_step : (x : Fault) (fs : List Fault) (n : ℕ) (o : Option Fault) → (IfSome o (λ g. n ≤ place_of g) → All (λ g. n ≤ place_of g) fs) → IfSome (join (Some x) o) (λ g. n ≤ place_of g) → All (λ g. n ≤ place_of g) (x ∷ fs)
 least_step x fs n None ih h = All-cons (λ g. n ≤ place_of g) x fs h (ih tt)
 least_step x fs n (Some g) ih h = let both = least_if (nat_lt (place_of g) (place_of x)) x g n refl h in All-cons (λ g. n ≤ place_of g) x fs both.0 (ih both.1)
 
@@ -96,11 +96,11 @@ at_least (x ∷ fs) n h = least_step x fs n (first fs) (at_least fs n) h
 head_in : (x f : Fault) (fs : List Fault) → x ≡ f → Contains (x ∷ fs) f
 head_in x f fs e = (0, omega arith, e)
 
-in_if : (t : Bool) (x g f : Fault) (fs : List Fault) → Contains fs g → cond t (Some g) (Some x) ≡ Some f → Contains (x ∷ fs) f
+in_if : (t : Bool) (x g f : Fault) (fs : List Fault) → Contains fs g → Some (cond t g x) ≡ Some f → Contains (x ∷ fs) f
 in_if true x g f fs h e = let same : g ≡ f = cc in let P : Fault → Type 0 = λ z. Contains (x ∷ fs) z in subst P same (Contains-append_right (x ∷ []) fs g h)
 in_if false x g f fs h e = let same : x ≡ f = cc in head_in x f fs same
 
-in_step : (x f : Fault) (fs : List Fault) (o : Option Fault) → ((g : Fault) → o ≡ Some g → Contains fs g) → sooner x o ≡ Some f → Contains (x ∷ fs) f
+in_step : (x f : Fault) (fs : List Fault) (o : Option Fault) → ((g : Fault) → o ≡ Some g → Contains fs g) → join (Some x) o ≡ Some f → Contains (x ∷ fs) f
 in_step x f fs None ih e = let same : x ≡ f = cc in head_in x f fs same
 in_step x f fs (Some g) ih e = in_if (nat_lt (place_of g) (place_of x)) x g f fs (ih g refl) e
 

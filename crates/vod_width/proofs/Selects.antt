@@ -12,7 +12,7 @@ use Rattle.vod_operand.specs.declared.tree.Looked as code
 use Rattle.vod_width.specs.View.{kept, is_found, bit_index_tree, word_index_tree}
 use Rattle.vod_width.specs.declared.decls.Vector.{Vector}
 use Rattle.vod_width.specs.declared.decls.WordArray.{WordArray}
-use Rattle.vod_width.specs.Sizes.{or_zero, in_vector, in_memory, look_index}
+use Rattle.vod_width.specs.Sizes.{or_zero, in_vector, in_ram, look_index}
 use Rattle.vod_width.specs.declared.decls.Declared.TheVariants as stands
 
 kept_if : (test : ℕ → Bool) (n : Option ℕ) (b : Bool) → kept test (cond b n None) ≡ cond (b && meets test n) n None
@@ -49,12 +49,12 @@ within_vector false a b h = absurd (cc)
 pub low_in_vector : (v : Vector) (n : ℕ) → in_vector v n ≡ true → n - v.lsb < v.width
 low_in_vector v n h = let t = within_vector v.ranged (nat_le v.lsb n) (nat_lt (n - v.lsb) v.width) h in grind (arith, nat_tests)
 
-within_memory : (a b : Bool) → (a && b) ≡ true → b ≡ true
-within_memory true b h = h
-within_memory false b h = absurd (cc)
+within_ram : (a b : Bool) → (a && b) ≡ true → b ≡ true
+within_ram true b h = h
+within_ram false b h = absurd (cc)
 
-place_in_memory : (m : WordArray) (n : ℕ) → in_memory m n ≡ true → n ≤ m.high
-place_in_memory m n h = let t = within_memory (nat_le m.low n) (nat_le n m.high) h in grind (arith, nat_tests)
+place_in_ram : (m : WordArray) (n : ℕ) → in_ram m n ≡ true → n ≤ m.high
+place_in_ram m n h = let t = within_ram (nat_le m.low n) (nat_le n m.high) h in grind (arith, nat_tests)
 
 pub bit_tree : (v : Vector) (y : Looked) (m : Option ℕ) (low : ℕ) (fault : Option Fault) (t : Result SizedExpr Fault) → m ≡ number_where (in_vector v) y → fault ≡ first (y.faults ++ unless (in_vector v) y)
     → low ≡ min (or_zero m - v.lsb) 255 → v.width ≤ 255 → t ≡ tree_unless fault (kind.Select v.name low 1) → y.constant ≡ true
@@ -69,16 +69,16 @@ bit_tree v y m low fault t mm f l small e constant =
     let same : low ≡ p.number - v.lsb = l ∙ ap (λ o. min (or_zero o - v.lsb) 255) is ∙ omega (arith, inside, small) in
     ap (λ k. kind.Select v.name k 1) (same ∙ ap (λ o. or_zero o - v.lsb) (sym p.is)) ∙ ap (λ b. cond b (kind.Select v.name (or_zero (natural y) - v.lsb) 1) (kind.Index v.name v.lsb (own y))) (sym constant)))
 
-pub word_tree : (w : WordArray) (y : Looked) (m : Option ℕ) (place : ℕ) (fault : Option Fault) (t : Result SizedExpr Fault) → m ≡ number_where (in_memory w) y → fault ≡ first (y.faults ++ unless (in_memory w) y)
+pub word_tree : (w : WordArray) (y : Looked) (m : Option ℕ) (place : ℕ) (fault : Option Fault) (t : Result SizedExpr Fault) → m ≡ number_where (in_ram w) y → fault ≡ first (y.faults ++ unless (in_ram w) y)
     → place ≡ min (or_zero m - w.low) 65535 → w.high ≤ 65535 → t ≡ tree_unless fault (kind.Word w.number place) → y.constant ≡ true
-    → TreeIs t (first (look_index 0 (Some (stands.Memory w)) y).faults) ((look_index 0 (Some (stands.Memory w)) y).sized 0 false)
+    → TreeIs t (first (look_index 0 (Some (stands.Ram w)) y).faults) ((look_index 0 (Some (stands.Ram w)) y).sized 0 false)
 word_tree w y m place fault t mm f l small e constant =
-    let P : Result SizedExpr Fault → Type 0 = λ z. TreeIs z (first (look_index 0 (Some (stands.Memory w)) y).faults) ((look_index 0 (Some (stands.Memory w)) y).sized 0 false) in
-    subst P (sym e) (unless_is fault (first (look_index 0 (Some (stands.Memory w)) y).faults) (kind.Word w.number place) _
-    (f ∙ ap (λ b. first (y.faults ++ cond b (unless (in_memory w) y) [])) (sym constant))
-    (λ h. let p = passed (in_memory w) y (ap (λ b. first (y.faults ++ cond b (unless (in_memory w) y) [])) (sym constant) ∙ h) in
-    let is : m ≡ Some p.number = mm ∙ passed_where (in_memory w) y p in
-    let inside = place_in_memory w p.number p.holds in
+    let P : Result SizedExpr Fault → Type 0 = λ z. TreeIs z (first (look_index 0 (Some (stands.Ram w)) y).faults) ((look_index 0 (Some (stands.Ram w)) y).sized 0 false) in
+    subst P (sym e) (unless_is fault (first (look_index 0 (Some (stands.Ram w)) y).faults) (kind.Word w.number place) _
+    (f ∙ ap (λ b. first (y.faults ++ cond b (unless (in_ram w) y) [])) (sym constant))
+    (λ h. let p = passed (in_ram w) y (ap (λ b. first (y.faults ++ cond b (unless (in_ram w) y) [])) (sym constant) ∙ h) in
+    let is : m ≡ Some p.number = mm ∙ passed_where (in_ram w) y p in
+    let inside = place_in_ram w p.number p.holds in
     let same : place ≡ p.number - w.low = l ∙ ap (λ o. min (or_zero o - w.low) 65535) is ∙ omega (arith, inside, small) in
     ap (λ k. kind.Word w.number k) (same ∙ ap (λ o. or_zero o - w.low) (sym p.is)) ∙ ap (λ b. cond b (kind.Word w.number (or_zero (natural y) - w.low)) (kind.WordIndex w.number w.low (own y))) (sym constant)))
 
@@ -100,9 +100,9 @@ bit_value v y r t e h constant =
     subst P (sym e) (subst Q (sym constant) (subst F (sym (first_nothing y.faults)) (bit_index_is v r (first y.faults) (own y) h)))
 
 pub word_value : (m : WordArray) (y : Looked) (r t : Result SizedExpr Fault) → t ≡ word_index_tree m r → TreeIs r (first y.faults) (own y) → y.constant ≡ false
-    → TreeIs t (first (look_index 0 (Some (stands.Memory m)) y).faults) ((look_index 0 (Some (stands.Memory m)) y).sized 0 false)
+    → TreeIs t (first (look_index 0 (Some (stands.Ram m)) y).faults) ((look_index 0 (Some (stands.Ram m)) y).sized 0 false)
 word_value m y r t e h constant =
-    let P : Result SizedExpr Fault → Type 0 = λ z. TreeIs z (first (look_index 0 (Some (stands.Memory m)) y).faults) ((look_index 0 (Some (stands.Memory m)) y).sized 0 false) in
-    let Q : Bool → Type 0 = λ b. TreeIs (word_index_tree m r) (first (y.faults ++ cond b (unless (in_memory m) y) [])) (node 0 false (cond b (kind.Word m.number (or_zero (natural y) - m.low)) (kind.WordIndex m.number m.low (own y)))) in
+    let P : Result SizedExpr Fault → Type 0 = λ z. TreeIs z (first (look_index 0 (Some (stands.Ram m)) y).faults) ((look_index 0 (Some (stands.Ram m)) y).sized 0 false) in
+    let Q : Bool → Type 0 = λ b. TreeIs (word_index_tree m r) (first (y.faults ++ cond b (unless (in_ram m) y) [])) (node 0 false (cond b (kind.Word m.number (or_zero (natural y) - m.low)) (kind.WordIndex m.number m.low (own y)))) in
     let F : Option Fault → Type 0 = λ f. TreeIs (word_index_tree m r) f (node 0 false (kind.WordIndex m.number m.low (own y))) in
     subst P (sym e) (subst Q (sym constant) (subst F (sym (first_nothing y.faults)) (word_index_is m r (first y.faults) (own y) h)))

@@ -24,7 +24,7 @@ use Rattle.vod_width.specs.declared.decls.Declared.TheVariants as stands
 
 name_refits : (place : ℕ) (d : Option Declared) → Refits (look_name place d)
 name_refits place (Some (stands.Vector v)) = stays _ (refitted.fixed_Name v.name)
-name_refits place (Some (stands.Memory m)) = stays _ (refitted.fixed_Number _)
+name_refits place (Some (stands.Ram m)) = stays _ (refitted.fixed_Number _)
 name_refits place (Some (stands.Function f)) = stays _ (refitted.fixed_Number _)
 name_refits place None = stays _ (refitted.fixed_Number _)
 
@@ -34,19 +34,19 @@ chosen false k l f g = stays l g
 
 index_refits : (place : ℕ) (d : Option Declared) (i : Looked) → Refits (look_index place d i)
 index_refits place (Some (stands.Vector v)) i = chosen i.constant _ _ (refitted.fixed_Select _ _ _) (refitted.fixed_Index _ _ _)
-index_refits place (Some (stands.Memory m)) i = chosen i.constant _ _ (refitted.fixed_Word _ _) (refitted.fixed_WordIndex _ _ _)
+index_refits place (Some (stands.Ram m)) i = chosen i.constant _ _ (refitted.fixed_Word _ _) (refitted.fixed_WordIndex _ _ _)
 index_refits place (Some (stands.Function f)) i = stays _ (refitted.fixed_Number _)
 index_refits place None i = stays _ (refitted.fixed_Number _)
 
 range_refits : (place : ℕ) (d : Option Declared) (a b : Looked) → Refits (look_range place d a b)
 range_refits place (Some (stands.Vector v)) a b = stays _ (refitted.fixed_Select _ _ _)
-range_refits place (Some (stands.Memory m)) a b = stays _ (refitted.fixed_Number _)
+range_refits place (Some (stands.Ram m)) a b = stays _ (refitted.fixed_Number _)
 range_refits place (Some (stands.Function f)) a b = stays _ (refitted.fixed_Number _)
 range_refits place None a b = stays _ (refitted.fixed_Number _)
 
 call_refits : (place : ℕ) (d : Option Declared) (xs : List Looked) → Refits (look_call place d xs)
 call_refits place (Some (stands.Vector v)) xs = stays _ (refitted.fixed_Number _)
-call_refits place (Some (stands.Memory m)) xs = stays _ (refitted.fixed_Number _)
+call_refits place (Some (stands.Ram m)) xs = stays _ (refitted.fixed_Number _)
 call_refits place (Some (stands.Function f)) xs = stays _ (refitted.fixed_Call _ _)
 call_refits place None xs = stays _ (refitted.fixed_Number _)
 

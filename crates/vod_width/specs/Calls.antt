@@ -12,7 +12,7 @@ use Rattle.vod_width.specs.declared.decls.Declared.TheVariants as stands
 abbrev pub called_of : ℕ → Option Declared → Result (List SizedExpr) Fault → code.Looked
 called_of place (Some (stands.Function f)) trees = looked_of 0 (min f.width 65) f.signed false (call_tree_of f.number trees)
 called_of place (Some (stands.Vector v)) trees = looked_of 0 0 false false (misused_tree place (fault_of_trees trees))
-called_of place (Some (stands.Memory m)) trees = looked_of 0 0 false false (misused_tree place (fault_of_trees trees))
+called_of place (Some (stands.Ram m)) trees = looked_of 0 0 false false (misused_tree place (fault_of_trees trees))
 called_of place None trees = looked_of 0 0 false false (misused_tree place (fault_of_trees trees))
 
 -- the width of an input, where there is one

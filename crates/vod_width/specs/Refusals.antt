@@ -1,8 +1,7 @@
 -- Why an expression is refused.
 use Rattle.std.specs.Prelude.{◌≡◌, ℕ, Bool, false, if◌then◌else◌, List, Some}
 use Rattle.vod_operand.specs.declared.fault.Fault.{Fault}
-use Rattle.vod_operand.specs.Operands.{first}
-use Rattle.vod_operand.specs.Found.{sooner_of}
+use Rattle.vod_operand.specs.Operands.{first, sooner}
 use Rattle.vod_operand.specs.declared.fault.Fault.TheVariants as faults
 use Rattle.vod_width.specs.declared.types.WidthFault.{WidthFault}
 use Rattle.vod_width.specs.declared.types.WidthFault.TheVariants as refusals
@@ -24,4 +23,4 @@ HasNoValue (refusals.Width p) known place = ⊥
 HasNoValue refusals.Memory known place = Unit {0}
 
 abbrev pub fault_beside : Fault → Bool → ℕ → Fault
-fault_beside fault constant place = if constant then fault else sooner_of fault (faults.Rule place)
+fault_beside fault constant place = if constant then fault else sooner fault (faults.Rule place)

@@ -37,7 +37,7 @@ is_constant (named.Constant b) = true
 -- a name has the size and sign of its declaration
 abbrev pub look_name : ℕ → Option Declared → Looked
 look_name place (Some (stands.Vector v)) = looked v.width v.signed (is_constant v.name) [] (λ w s. node w s (kind.Name v.name))
-look_name place (Some (stands.Memory m)) = misused place []
+look_name place (Some (stands.Ram m)) = misused place []
 look_name place (Some (stands.Function f)) = misused place []
 look_name place None = misused place []
 
@@ -45,16 +45,16 @@ look_name place None = misused place []
 abbrev pub in_vector : Vector → ℕ → Bool
 in_vector v n = v.ranged && (nat_le v.lsb n && nat_lt (n - v.lsb) v.width)
 
-abbrev pub in_memory : WordArray → ℕ → Bool
-in_memory m n = nat_le m.low n && nat_le n m.high
+abbrev pub in_ram : WordArray → ℕ → Bool
+in_ram m n = nat_le m.low n && nat_le n m.high
 
 -- a select is unsigned and has the size selected; its index is self-determined, and a constant one is inside the range (5.2.1, 5.2.2)
 abbrev pub look_index : ℕ → Option Declared → Looked → Looked
 look_index place (Some (stands.Vector v)) i =
     looked 1 false (is_constant v.name && i.constant) (i.faults ++ (if i.constant then unless (in_vector v) i else []))
     (λ w s. node w s (if i.constant then kind.Select v.name (or_zero (natural i) - v.lsb) 1 else kind.Index v.name v.lsb (own i)))
-look_index place (Some (stands.Memory m)) i =
-    looked m.width false false (i.faults ++ (if i.constant then unless (in_memory m) i else []))
+look_index place (Some (stands.Ram m)) i =
+    looked m.width false false (i.faults ++ (if i.constant then unless (in_ram m) i else []))
     (λ w s. node w s (if i.constant then kind.Word m.number (or_zero (natural i) - m.low) else kind.WordIndex m.number m.low (own i)))
 look_index place (Some (stands.Function f)) i = misused place i.faults
 look_index place None i = misused place i.faults
@@ -78,7 +78,7 @@ look_range place (Some (stands.Vector v)) a b =
     looked (selected msb lsb) false (is_constant v.name)
     (a.faults ++ unless (in_vector v) a ++ b.faults ++ unless (in_vector v) b ++ (if in_wrong_order msb lsb then Rule a.place ∷ [] else []))
     (λ w s. node w s (kind.Select v.name (or_zero lsb - v.lsb) (selected msb lsb)))
-look_range place (Some (stands.Memory m)) a b = misused place (a.faults ++ b.faults)
+look_range place (Some (stands.Ram m)) a b = misused place (a.faults ++ b.faults)
 look_range place (Some (stands.Function f)) a b = misused place (a.faults ++ b.faults)
 look_range place None a b = misused place (a.faults ++ b.faults)
 
@@ -96,7 +96,7 @@ abbrev pub look_call : ℕ → Option Declared → List Looked → Looked
 look_call place (Some (stands.Function f)) arguments =
     looked f.width f.signed false (flat_map (λ a. a.faults) arguments) (λ w s. node w s (kind.Call f.number (sized_arguments f.inputs arguments)))
 look_call place (Some (stands.Vector v)) arguments = misused place (flat_map (λ a. a.faults) arguments)
-look_call place (Some (stands.Memory m)) arguments = misused place (flat_map (λ a. a.faults) arguments)
+look_call place (Some (stands.Ram m)) arguments = misused place (flat_map (λ a. a.faults) arguments)
 look_call place None arguments = misused place (flat_map (λ a. a.faults) arguments)
 
 -- the size of a concatenation: the sum (5.4.1), and none where a part has none

@@ -8,8 +8,8 @@ use Rattle.vod_design.specs.declared.statement.Size.{Size}
 use Rattle.vod_design.specs.declared.sized.SizedKind.TheVariants as kind
 use Rattle.vod_operand.specs.declared.fault.Fault.{Fault}
 use Rattle.vod_operand.specs.declared.fault.Fault.TheVariants.{Rule}
-use Rattle.vod_operand.specs.Operands.{Looked, node, own, first, meets}
-use Rattle.vod_operand.specs.Found.{sooner_of, looked_of, join, tree_unless}
+use Rattle.vod_operand.specs.Operands.{Looked, node, own, first, meets, sooner, join}
+use Rattle.vod_operand.specs.Found.{looked_of, tree_unless}
 use Rattle.vod_operand.specs.declared.tree.Looked as code
 use Rattle.vod_width.specs.declared.decls.Declared.{Declared}
 use Rattle.vod_width.specs.declared.decls.Vector.{Vector}
@@ -48,7 +48,7 @@ abbrev pub with_tree_of : Result (List SizedExpr) Fault → Result SizedExpr Fau
 with_tree_of (Ok ts) (Ok t) = Ok (ts ++ t ∷ [])
 with_tree_of (Ok ts) (Err g) = Err g
 with_tree_of (Err f) (Ok t) = Err f
-with_tree_of (Err f) (Err g) = Err (sooner_of f g)
+with_tree_of (Err f) (Err g) = Err (sooner f g)
 
 abbrev pub misused_tree : ℕ → Option Fault → Result SizedExpr Fault
 misused_tree place beside = tree_unless (join (Some (Rule place)) beside) (kind.Number (B0 ∷ []))
@@ -57,7 +57,7 @@ misused_tree place beside = tree_unless (join (Some (Rule place)) beside) (kind.
 abbrev pub inputs_of : Option Declared → List Size
 inputs_of (Some (stands.Function f)) = f.inputs
 inputs_of (Some (stands.Vector v)) = []
-inputs_of (Some (stands.Memory m)) = []
+inputs_of (Some (stands.Ram m)) = []
 inputs_of None = []
 
 abbrev pub call_tree_of : ℕ → Result (List SizedExpr) Fault → Result SizedExpr Fault
@@ -78,13 +78,13 @@ kept test n = if meets test n then n else None
 
 abbrev pub named_of : ℕ → Option Declared → code.Looked
 named_of place (Some (stands.Vector v)) = looked_of 0 (min v.width 65) v.signed (is_constant v.name) (Ok (node 0 false (kind.Name v.name)))
-named_of place (Some (stands.Memory m)) = looked_of 0 0 false false (misused_tree place None)
+named_of place (Some (stands.Ram m)) = looked_of 0 0 false false (misused_tree place None)
 named_of place (Some (stands.Function f)) = looked_of 0 0 false false (misused_tree place None)
 named_of place None = looked_of 0 0 false false (misused_tree place None)
 
 abbrev pub vector_of : Option Declared → Option Vector
 vector_of (Some (stands.Vector v)) = Some v
-vector_of (Some (stands.Memory m)) = None
+vector_of (Some (stands.Ram m)) = None
 vector_of (Some (stands.Function f)) = None
 vector_of None = None
 
@@ -105,4 +105,4 @@ abbrev pub replicate_tree_of : Option Fault → ℕ → ℕ → Result SizedExpr
 replicate_tree_of None count width (Ok t) = Ok (node 0 false (kind.Replicate count (node width false t.kind)))
 replicate_tree_of None count width (Err g) = Err g
 replicate_tree_of (Some f) count width (Ok t) = Err f
-replicate_tree_of (Some f) count width (Err g) = Err (sooner_of f g)
+replicate_tree_of (Some f) count width (Err g) = Err (sooner f g)

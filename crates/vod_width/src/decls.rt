@@ -10,7 +10,7 @@ use vod_design::{Locals, Named};
 
 /// A net, a variable or a constant: what it is, its size and sign, the index of its lowest bit, and whether it has a range. A
 /// constant has one, from its own or from 0 on (4.10.1).
-#[derive(Clone, Copy, Debug)]
+#[derive(Clone, Copy)]
 pub struct Vector {
     pub name: Named,
     pub width: u8,
@@ -20,7 +20,7 @@ pub struct Vector {
 }
 
 /// A memory: its number, the size of its words, and its least and its greatest index (4.9).
-#[derive(Clone, Copy, Debug)]
+#[derive(Clone, Copy)]
 pub struct WordArray {
     pub number: u32,
     pub width: u8,
@@ -29,7 +29,7 @@ pub struct WordArray {
 }
 
 /// A function: its number, the size and sign of its result, and those of its inputs (10.4).
-#[derive(Debug, Drop)]
+#[derive(Drop)]
 pub struct Callee {
     pub number: u32,
     pub width: u8,
@@ -38,10 +38,10 @@ pub struct Callee {
 }
 
 /// What a name stands for.
-#[derive(Debug, Drop)]
+#[derive(Drop)]
 pub enum Declared {
     Vector(Vector),
-    Memory(WordArray),
+    Ram(WordArray),
     Function(Callee),
 }
 

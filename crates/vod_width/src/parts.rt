@@ -194,7 +194,7 @@ pub(crate) fn inputs_of<'a>(callee: Option<&'a Declared>) -> &'a [Size]
     match callee {
         Some(Declared::Function(f)) => f.inputs.as_slice(),
         Some(Declared::Vector(_)) => &[],
-        Some(Declared::Memory(_)) => &[],
+        Some(Declared::Ram(_)) => &[],
         None => &[],
     }
 }
@@ -256,7 +256,7 @@ pub(crate) fn call(
             unplaced(capped(f.width), f.signed, false, call_tree(f.number, trees))
         }
         Some(Declared::Vector(_)) => misused(place, fault_of_trees(&trees)),
-        Some(Declared::Memory(_)) => misused(place, fault_of_trees(&trees)),
+        Some(Declared::Ram(_)) => misused(place, fault_of_trees(&trees)),
         None => misused(place, fault_of_trees(&trees)),
     }
 }

@@ -3,9 +3,9 @@ ghost use Rattle.std.specs.Prelude.{◌≡◌, ◌-◌, min, true, false, Some, 
 ghost use Rattle.std.specs.Option.{option_copied};
 ghost use Rattle.vod_width.specs.declared.decls.Declared.TheVariants as stands;
 ghost use Rattle.vod_width.specs.Names.{declared};
-ghost use Rattle.vod_operand.specs.Operands.{Looked as Found, own};
-ghost use Rattle.vod_width.specs.Sizes.{in_vector, in_memory, selected, in_wrong_order, is_constant, look_index, look_range};
-ghost use Rattle.vod_operand.specs.Found.{Sees, Saw, SeesAs, join, fault_of, looked_of};
+ghost use Rattle.vod_operand.specs.Operands.{Looked as Found, own, join};
+ghost use Rattle.vod_width.specs.Sizes.{in_vector, in_ram, selected, in_wrong_order, is_constant, look_index, look_range};
+ghost use Rattle.vod_operand.specs.Found.{Sees, Saw, SeesAs, fault_of, looked_of};
 ghost use Rattle.vod_width.specs.View.{kept, misused_tree, named_of, vector_of, bit_index_tree, word_index_tree};
 
 use crate::decls::{Declared, Decls, Vector, WordArray};
@@ -15,8 +15,8 @@ use std::alloc::{AllocError, Global};
 use vod_bits::{Bits, Word};
 use vod_design::{Named, SizedExpr, SizedKind};
 use vod_operand::{
-    Fault, Looked, WIDE, both_hold, fault_if, fault_of, fit_own, join, natural, part_fault,
-    tree_unless, unplaced, unsized_node,
+    Fault, Looked, WIDE, both_hold, fault_if, fault_of, fit_own, fit_own_pair, join, natural,
+    part_fault, tree_unless, unplaced, unsized_node,
 };
 use vod_tree::Ident;
 
@@ -62,7 +62,7 @@ pub(crate) fn name(place: u32, decls: &Decls, name: &Ident) -> Looked
             is_constant(v.name),
             Ok(unsized_node(SizedKind::Name(v.name))),
         ),
-        Some(Declared::Memory(_)) => misused(place, None),
+        Some(Declared::Ram(_)) => misused(place, None),
         Some(Declared::Function(_)) => misused(place, None),
         None => misused(place, None),
     }
@@ -80,8 +80,8 @@ fn in_vector(v: &Vector, n: Word) -> bool
 }
 
 // Whether an index is inside the range of a memory.
-fn in_memory(m: &WordArray, n: Word) -> bool
-    ensures { result ≡ in_memory m.now n }
+fn in_ram(m: &WordArray, n: Word) -> bool
+    ensures { result ≡ in_ram m.now n }
 {
     both_hold(Word::from(m.low) <= n, n <= Word::from(m.high))
 }
@@ -97,11 +97,11 @@ fn kept_in_vector(v: &Vector, n: Option<Word>) -> Option<Word>
 }
 
 // The same for a memory.
-fn kept_in_memory(m: &WordArray, n: Option<Word>) -> Option<Word>
-    ensures { result ≡ kept (in_memory m.now) n }
+fn kept_in_ram(m: &WordArray, n: Option<Word>) -> Option<Word>
+    ensures { result ≡ kept (in_ram m.now) n }
 {
     match n {
-        Some(n) => { if in_memory(m, n) { Some(n) } else { None } }
+        Some(n) => { if in_ram(m, n) { Some(n) } else { None } }
         None => None,
     }
 }
@@ -157,8 +157,8 @@ fn bit_index_tree(
 }
 
 // A word of a memory.
-fn index_memory(alloc: Global, m: &WordArray, i: Looked) -> Result<Looked, AllocError>
-    ensures { IfOk result (λ c. (y : Found) → SeesAs i y (own y) → Sees c (look_index 0 (Some (stands.Memory m.now)) y)) }
+fn index_ram(alloc: Global, m: &WordArray, i: Looked) -> Result<Looked, AllocError>
+    ensures { IfOk result (λ c. (y : Found) → SeesAs i y (own y) → Sees c (look_index 0 (Some (stands.Ram m.now)) y)) }
 {
     if i.constant {
         word_select(alloc, *m, i)
@@ -169,10 +169,10 @@ fn index_memory(alloc: Global, m: &WordArray, i: Looked) -> Result<Looked, Alloc
 
 // A word of a memory at a constant index.
 fn word_select(alloc: Global, m: WordArray, i: Looked) -> Result<Looked, AllocError>
-    ensures { IfOk result (λ c. (y : Found) → SeesAs i y (own y) → y.constant ≡ true → Sees c (look_index 0 (Some (stands.Memory m)) y)) }
+    ensures { IfOk result (λ c. (y : Found) → SeesAs i y (own y) → y.constant ≡ true → Sees c (look_index 0 (Some (stands.Ram m)) y)) }
 {
     let n = natural(alloc, &i)?;
-    let number = kept_in_memory(&m, n);
+    let number = kept_in_ram(&m, n);
     let fault = part_fault(&i, is_found(number));
     let place = two_bytes(above(number, m.low));
     let tree = tree_unless(fault, SizedKind::Word(m.number, place));
@@ -181,7 +181,7 @@ fn word_select(alloc: Global, m: WordArray, i: Looked) -> Result<Looked, AllocEr
 
 // A word of a memory at an index that is a value.
 fn word_index(alloc: Global, m: &WordArray, i: Looked) -> Result<Looked, AllocError>
-    ensures { IfOk result (λ c. (y : Found) → SeesAs i y (own y) → y.constant ≡ false → Sees c (look_index 0 (Some (stands.Memory m.now)) y)) }
+    ensures { IfOk result (λ c. (y : Found) → SeesAs i y (own y) → y.constant ≡ false → Sees c (look_index 0 (Some (stands.Ram m.now)) y)) }
 {
     let tree = word_index_tree(alloc, m, i.tree)?;
     Ok(unplaced(capped(m.width), false, false, tree))
@@ -217,7 +217,7 @@ pub(crate) fn index(
     let i = fit_own(alloc, i)?;
     match decls.get(name.name.as_slice()) {
         Some(Declared::Vector(v)) => index_vector(alloc, v, i),
-        Some(Declared::Memory(m)) => index_memory(alloc, m, i),
+        Some(Declared::Ram(m)) => index_ram(alloc, m, i),
         _ => Ok(misused(place, fault_of(&i.tree))),
     }
 }
@@ -265,8 +265,7 @@ pub(crate) fn range(
 ) -> Result<Looked, AllocError>
     ensures { IfOk result (λ c. (x y : Found) → Saw a x → Saw b y → Sees c (look_range place (declared decls.now name.now.name) x y)) }
 {
-    let a = fit_own(alloc, a)?;
-    let b = fit_own(alloc, b)?;
+    let (a, b) = fit_own_pair(alloc, a, b)?;
     match vector_of(decls.get(name.name.as_slice())) {
         Some(v) => part_select(alloc, v, &a, &b),
         None => Ok(misused_bounds(place, &a, &b)),
@@ -286,7 +285,7 @@ fn vector_of(declared: Option<&Declared>) -> Option<Vector>
 {
     match declared {
         Some(Declared::Vector(v)) => Some(*v),
-        Some(Declared::Memory(_)) => None,
+        Some(Declared::Ram(_)) => None,
         Some(Declared::Function(_)) => None,
         None => None,
     }

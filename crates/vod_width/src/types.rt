@@ -1,16 +1,17 @@
 //! What `constant` answers, and why it and `size` refuse.
 use std::alloc::AllocError;
-use vod_bits::Bits;
+use std::fmt;
+use vod_bits::{Bits, WIDTH};
 
 /// The value of a constant expression, and whether it is signed.
-#[derive(Clone, Copy, Debug)]
+#[derive(Clone, Copy)]
 pub struct Constant {
     pub value: Bits,
     pub signed: bool,
 }
 
 /// Why an expression is refused: by the first token of the least part that is at fault, and at one place by a rule before a width.
-#[derive(Clone, Copy, Debug, PartialEq, Eq)]
+#[derive(Clone, Copy, PartialEq, Eq)]
 pub enum WidthFault {
     /// A part that has to be constant isn't, or has a value that it may not have.
     Rule { place: u32 },
@@ -18,6 +19,23 @@ pub enum WidthFault {
     Width { place: u32 },
     /// Memory ran out.
     Memory,
+}
+
+impl fmt::Display for WidthFault {
+    fn fmt<W: fmt::Write>(&self, f: &mut fmt::Formatter<W>) -> fmt::Result {
+        match self {
+            WidthFault::Rule { place } => {
+                write!(
+                    f,
+                    "the part at byte {place} has to be a constant, with a value that may stand there"
+                )
+            }
+            WidthFault::Width { place } => {
+                write!(f, "the part at byte {place} is wider than {WIDTH} bits")
+            }
+            WidthFault::Memory => f.write_str("memory ran out"),
+        }
+    }
 }
 
 impl From<AllocError> for WidthFault {

@@ -6,7 +6,7 @@ use Rattle.vod_thin_code.specs.Bytes.{batch_bytes}
 use Rattle.vod_thin_code.specs.Held.{ack, counts}
 use Rattle.vod_thin_store.specs.Stored.{EndsWith}
 use Rattle.vod_thin_store.proofs.Frames.{FrameLaws}
-use Rattle.vod_thin_store.proofs.Stored.{IsScript, IsCut, made-cut, next-batches, batch-forms, counts-are, written, frame, frame-is, goes-on, ends-more, stops-more, stored-more}
+use Rattle.vod_thin_store.proofs.Stored.{IsScript, IsCut, made-cut, next-batches, batch-forms, counts-are, written, frame, frame-is, goes-on, ends-more, crashes-more, stored-more}
 use Rattle.vod_thin_store.proofs.store.append_batches.Goals as goal
 
 pub batch-requires : goal.batch-requires
@@ -34,8 +34,8 @@ commit-requires-clause-goes_on g c =
     let bytes : c.as_slice.result.now ≡ frame d vs c.args.known script k most batch cut = frame-is d vs c.args.known script k most batch cut _ _ after (c.as_slice.ensures ∙ c.in_ok-batch.ensures) in
     subst (λ f. Continues c.loop-held.tail.last f) (sym bytes) (goes-on d vs c.args.known script k most batch cut laws c.loop-held.tail.last c.loop-held.invariant.ends short)
 
-pub returns-in_err-commit-clause-stops : goal.returns-in_err-commit-clause-stops
-returns-in_err-commit-clause-stops g c = λ tells.
+pub returns-in_err-commit-clause-crashes : goal.returns-in_err-commit-clause-crashes
+returns-in_err-commit-clause-crashes g c = λ tells.
     let k = c.loop-held.held in
     let d = c.args.design.now in
     let vs = c.args.vectors.now in
@@ -47,8 +47,8 @@ returns-in_err-commit-clause-stops g c = λ tells.
     let short : length (batch_bytes batch) ≤ 787200 = omega (arith, c.batches_are_short.ensures d batch (batch-forms d vs c.args.known script k most batch cut) cut.few) in
     let after : written k batch c.last_time-last.result c.known_by.result ≡ counts d (take k vs ++ batch) = counts-are d vs c.args.known script k most batch cut _ _ c.last_time-last.ensures c.known_by.ensures in
     let bytes : c.as_slice.result.now ≡ frame d vs c.args.known script k most batch cut = frame-is d vs c.args.known script k most batch cut _ _ after (c.as_slice.ensures ∙ c.in_ok-batch.ensures) in
-    stops-more d vs c.args.known script k most batch cut laws c.args.source.now short c.loop-held.invariant.batches.0 c.loop-held.invariant.batches.1 (omega arith) _ _ _ _ (c.loop-held.invariant.stored tells)
-    _ _ bytes (ap (λ a. ack a.vectors a.last) after) _ (c.commit.ensures.stops tells)
+    crashes-more d vs c.args.known script k most batch cut laws c.args.source.now short c.loop-held.invariant.batches.0 c.loop-held.invariant.batches.1 (omega arith) _ _ _ _ (c.loop-held.invariant.stored tells)
+    _ _ bytes (ap (λ a. ack a.vectors a.last) after) _ (c.commit.ensures.crashes tells)
 
 pub loop-held-smaller : goal.loop-held-smaller
 loop-held-smaller g c =
@@ -75,7 +75,7 @@ loop-held-preserved g c =
       ends = subst (λ o. EndsWith d (take (k + length batch) vs) o) (sym last) (ends-more d vs c.args.known script k most batch cut laws short);
       stored = λ tells.
           stored-more d vs c.args.known script k most batch cut laws c.args.source.now short c.loop-held.invariant.batches.0 c.loop-held.invariant.batches.1 (omega arith) _ _ _ _ (c.loop-held.invariant.stored tells)
-          _ _ bytes (ap (λ a. ack a.vectors a.last) after) _ (c.commit.ensures.stops tells) _ _
+          _ _ bytes (ap (λ a. ack a.vectors a.last) after) _ (c.commit.ensures.crashes tells) _ _
           (c.in_ok-commit.ensures.held tells) (c.in_ok-commit.ensures.settled tells) (c.in_ok-commit.ensures.said tells);
       later = omega (arith, c.loop-held.invariant.later, c.commit.ensures.caused.later);
     }

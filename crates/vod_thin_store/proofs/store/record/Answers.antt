@@ -7,14 +7,14 @@ use Rattle.vod_thin_store.specs.declared.StoreFault.TheVariants.{NotEmpty}
 use Rattle.vod_thin_code.specs.Held.{said}
 use Rattle.vod_thin_store.proofs.Frames.{FrameLaws}
 use Rattle.vod_thin_store.proofs.Commits.{text-of}
-use Rattle.vod_thin_store.proofs.Begins.{head-goes-on, head-none, head-held, head-stops, all-said, all-stops}
+use Rattle.vod_thin_store.proofs.Begins.{head-goes-on, head-none, head-held, head-crashes, all-said, all-crashes}
 use Rattle.vod_thin_store.proofs.store.record.Goals as goal
 
-pub returns-in_err-append_head-clause-stops : goal.returns-in_err-append_head-clause-stops
-returns-in_err-append_head-clause-stops g c = λ tells.
+pub returns-in_err-append_head-clause-crashes : goal.returns-in_err-append_head-clause-crashes
+returns-in_err-append_head-clause-crashes g c = λ tells.
     let laws : FrameLaws = record { begins = c.frames_are_records.ensures.begins; header = c.frames_are_records.ensures.header; long = c.frames_are_records.ensures.long; closed = c.frames_are_records.ensures.closed; entry = c.frames_are_records.ensures.entry } in
-    head-stops laws c.args.source.now c.requires.short c.as_slice.result.now (c.as_slice.ensures ∙ c.in_ok-head.ensures) c.args.design.now c.args.vectors.now c.requires.lawful _ _ c.args.tail.last (c.requires.settled tells) _
-    (λ goes_on. c.append_head.ensures.stops tells goes_on) (λ not. ap (λ deck. g.L.Deck.view deck) (c.append_head.ensures.untouched not))
+    head-crashes laws c.args.source.now c.requires.short c.as_slice.result.now (c.as_slice.ensures ∙ c.in_ok-head.ensures) c.args.design.now c.args.vectors.now c.requires.lawful _ _ c.args.tail.last (c.requires.settled tells) _
+    (λ goes_on. c.append_head.ensures.crashes tells goes_on) (λ not. ap (λ deck. g.L.Deck.view deck) (c.append_head.ensures.untouched not))
 
 pub returns-in_err-append_head-clause-not_empty : goal.returns-in_err-append_head-clause-not_empty
 returns-in_err-append_head-clause-not_empty g c = λ is none.
@@ -39,20 +39,20 @@ pub returns-clause-said : goal.returns-clause-said
 returns-clause-said g c =
     on_ok_weaker c.append_batches.result (λ says tells.
     let laws : FrameLaws = record { begins = c.frames_are_records.ensures.begins; header = c.frames_are_records.ensures.header; long = c.frames_are_records.ensures.long; closed = c.frames_are_records.ensures.closed; entry = c.frames_are_records.ensures.entry } in
-    let leaves = c.append_head.ensures.stops tells c.in_ok-append_head.ensures.goes_on in
+    let leaves = c.append_head.ensures.crashes tells c.in_ok-append_head.ensures.goes_on in
     all-said laws c.args.source.now c.requires.short c.as_slice.result.now (c.as_slice.ensures ∙ c.in_ok-head.ensures) c.args.design.now c.args.vectors.now c.requires.lawful _ _ c.args.tail.last (c.requires.settled tells) (g.L.Deck.view c.append_head.new.deck) (g.L.Deck.view c.append_batches.new.deck)
     (text-of (g.L.Deck.view c.args.deck.now) (g.L.Deck.view c.append_head.new.deck) _ _ leaves (λ o since. g.met.L.Deck.only_now c.args.deck.now o since) (λ o now. g.met.L.Deck.counts_now c.append_head.new.deck _ o leaves.later now))
     (said c.args.vectors.now) (says tells)) c.append_batches.ensures.said
 
-pub returns-clause-stops : goal.returns-clause-stops
-returns-clause-stops g c = λ tells.
+pub returns-clause-crashes : goal.returns-clause-crashes
+returns-clause-crashes g c = λ tells.
     let laws : FrameLaws = record { begins = c.frames_are_records.ensures.begins; header = c.frames_are_records.ensures.header; long = c.frames_are_records.ensures.long; closed = c.frames_are_records.ensures.closed; entry = c.frames_are_records.ensures.entry } in
-    let leaves = c.append_head.ensures.stops tells c.in_ok-append_head.ensures.goes_on in
-    all-stops laws c.args.source.now c.requires.short c.as_slice.result.now (c.as_slice.ensures ∙ c.in_ok-head.ensures) c.args.design.now c.args.vectors.now c.requires.lawful _ _ c.args.tail.last (c.requires.settled tells) (g.L.Deck.view c.append_head.new.deck) (g.L.Deck.view c.append_batches.new.deck)
+    let leaves = c.append_head.ensures.crashes tells c.in_ok-append_head.ensures.goes_on in
+    all-crashes laws c.args.source.now c.requires.short c.as_slice.result.now (c.as_slice.ensures ∙ c.in_ok-head.ensures) c.args.design.now c.args.vectors.now c.requires.lawful _ _ c.args.tail.last (c.requires.settled tells) (g.L.Deck.view c.append_head.new.deck) (g.L.Deck.view c.append_batches.new.deck)
     (text-of (g.L.Deck.view c.args.deck.now) (g.L.Deck.view c.append_head.new.deck) _ _ leaves (λ o since. g.met.L.Deck.only_now c.args.deck.now o since) (λ o now. g.met.L.Deck.counts_now c.append_head.new.deck _ o leaves.later now))
-    (head-stops laws c.args.source.now c.requires.short c.as_slice.result.now (c.as_slice.ensures ∙ c.in_ok-head.ensures) c.args.design.now c.args.vectors.now c.requires.lawful _ _ c.args.tail.last (c.requires.settled tells) _
-    (λ goes_on. c.append_head.ensures.stops tells goes_on) (λ not. ap (λ deck. g.L.Deck.view deck) (c.append_head.ensures.untouched not)))
-    (c.append_batches.ensures.stops tells)
+    (head-crashes laws c.args.source.now c.requires.short c.as_slice.result.now (c.as_slice.ensures ∙ c.in_ok-head.ensures) c.args.design.now c.args.vectors.now c.requires.lawful _ _ c.args.tail.last (c.requires.settled tells) _
+    (λ goes_on. c.append_head.ensures.crashes tells goes_on) (λ not. ap (λ deck. g.L.Deck.view deck) (c.append_head.ensures.untouched not)))
+    (c.append_batches.ensures.crashes tells)
 
 pub returns-clause-begins : goal.returns-clause-begins
 returns-clause-begins g c =

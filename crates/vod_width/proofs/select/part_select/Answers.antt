@@ -1,9 +1,9 @@
 use Rattle.std.proofs.Common.{◌≡◌, ◌∙◌, min, cond, false, [], ◌∷◌, Some, refl, ap, arith}
 use Rattle.vod_width.specs.declared.decls.Declared.TheVariants as stands
 use Rattle.vod_operand.specs.declared.fault.Fault.TheVariants.{Rule}
-use Rattle.vod_operand.specs.Operands.{unless, number_where}
+use Rattle.vod_operand.specs.Operands.{unless, number_where, join}
 use Rattle.vod_width.specs.Sizes.{in_vector, in_wrong_order, look_range}
-use Rattle.vod_operand.specs.Found.{fault_if, join}
+use Rattle.vod_operand.specs.Found.{fault_if}
 use Rattle.vod_operand.specs.FoundLaws.{sees_of}
 use Rattle.vod_width.proofs.Selects.{number_step, number_is}
 use Rattle.vod_width.proofs.Ranges.{order_is, range_faults, range_width, range_tree}

@@ -8,5 +8,5 @@ use Rattle.vod_width.proofs.select.word_index.Goals as goal
 pub returns : goal.returns
 returns c = λ y s constant.
     let m = c.args.m.now in
-    sees_of c.unplaced.result (look_index 0 (Some (stands.Memory m)) y) c.capped.result false false c.in_ok-tree.tree c.unplaced.ensures refl c.capped.ensures refl refl
+    sees_of c.unplaced.result (look_index 0 (Some (stands.Ram m)) y) c.capped.result false false c.in_ok-tree.tree c.unplaced.ensures refl c.capped.ensures refl refl
     (word_value m y c.args.i.tree c.in_ok-tree.tree (c.in_ok-tree.ensures) s.tree constant)

@@ -2,7 +2,7 @@
 use Rattle.std.proofs.Common.{arith}
 use Rattle.vod_log.specs.Tail.{Continues, IsSettled, frame_header}
 use Rattle.vod_log.proofs.Appends.{mid-length, held-gate, held-ends}
-use Rattle.vod_log.proofs.Stops.{stops-record, stops-gate}
+use Rattle.vod_log.proofs.Crashes.{crashes-record, crashes-gate}
 use Rattle.vod_log.proofs.Bounds.{near-more, near-short}
 use Rattle.vod_log.proofs.Placed.{records-placed}
 use Rattle.vod_log.proofs.tail.Tail.append.Goals as goal
@@ -10,10 +10,10 @@ use Rattle.vod_log.proofs.tail.Tail.append.Goals as goal
 pub write_frame-requires-clause-short : goal.write_frame-requires-clause-short
 write_frame-requires-clause-short g c = near-short c.self.inside.gate c.self.inside.last c.args.frame.now c.self.invariant (rw (← c.self.view_is) at c.requires.goes_on)
 
-pub returns-in-Err-clause-stops : goal.returns-in-Err-clause-stops
-returns-in-Err-clause-stops g c = rw (← c.self.view_is) (λ tells whole.
+pub returns-in-Err-clause-crashes : goal.returns-in-Err-clause-crashes
+returns-in-Err-clause-crashes g c = rw (← c.self.view_is) (λ tells whole.
     let settled : IsSettled (g.L.Deck.view c.args.deck.now) c.self.inside.gate c.self.inside.last = rw (← c.self.view_is) at (c.requires.settled tells) whole in
-    stops-record _ _ _ _ _ settled (c.write_frame.ensures.outcomes tells))
+    crashes-record _ _ _ _ _ settled (c.write_frame.ensures.outcomes tells))
 
 pub write_gate-requires-clause-joined : goal.write_gate-requires-clause-joined
 write_gate-requires-clause-joined g c = λ tells.
@@ -21,11 +21,11 @@ write_gate-requires-clause-joined g c = λ tells.
     let goes_on : Continues c.self.inside.last c.args.frame.now = rw (← c.self.view_is) at c.requires.goes_on in
     omega (arith, mid-length _ _ _ _ _ settled.ends goes_on (c.in-Ok.ensures.written tells))
 
-pub returns-in-Err-write_gate-clause-stops : goal.returns-in-Err-write_gate-clause-stops
-returns-in-Err-write_gate-clause-stops g c = rw (← c.self.view_is) (λ tells whole.
+pub returns-in-Err-write_gate-clause-crashes : goal.returns-in-Err-write_gate-clause-crashes
+returns-in-Err-write_gate-clause-crashes g c = rw (← c.self.view_is) (λ tells whole.
     let settled : IsSettled (g.L.Deck.view c.args.deck.now) c.self.inside.gate c.self.inside.last = rw (← c.self.view_is) at (c.requires.settled tells) whole in
     let goes_on : Continues c.self.inside.last c.args.frame.now = rw (← c.self.view_is) at c.requires.goes_on in
-    stops-gate _ _ _ _ _ settled (c.write_frame.ensures.outcomes tells) _ goes_on (c.in-Ok.ensures.written tells) (c.in-Ok.ensures.lasts tells) (c.write_gate.ensures.outcomes tells))
+    crashes-gate _ _ _ _ _ settled (c.write_frame.ensures.outcomes tells) _ goes_on (c.in-Ok.ensures.written tells) (c.in-Ok.ensures.lasts tells) (c.write_gate.ensures.outcomes tells))
 
 pub gate_behind-self-inside-requires : goal.gate_behind-self-inside-requires
 gate_behind-self-inside-requires g c =
@@ -55,8 +55,8 @@ returns-clause-settled g c = λ tells.
 pub returns-clause-placed : goal.returns-clause-placed
 returns-clause-placed g c = λ tells. records-placed _
 
-pub returns-clause-stops : goal.returns-clause-stops
-returns-clause-stops g c = rw (← c.self.view_is) (λ tells whole.
+pub returns-clause-crashes : goal.returns-clause-crashes
+returns-clause-crashes g c = rw (← c.self.view_is) (λ tells whole.
     let settled : IsSettled (g.L.Deck.view c.args.deck.now) c.self.inside.gate c.self.inside.last = rw (← c.self.view_is) at (c.requires.settled tells) whole in
     let goes_on : Continues c.self.inside.last c.args.frame.now = rw (← c.self.view_is) at c.requires.goes_on in
-    stops-gate _ _ _ _ _ settled (c.write_frame.ensures.outcomes tells) _ goes_on (c.in-Ok.ensures.written tells) (c.in-Ok.ensures.lasts tells) (c.write_gate.ensures.outcomes tells))
+    crashes-gate _ _ _ _ _ settled (c.write_frame.ensures.outcomes tells) _ goes_on (c.in-Ok.ensures.written tells) (c.in-Ok.ensures.lasts tells) (c.write_gate.ensures.outcomes tells))
