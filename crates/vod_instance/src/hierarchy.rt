@@ -5,7 +5,7 @@ ghost use Rattle.vod_instance.specs.InstancesForm.{arguments_form, connected_to,
 use vod_expr::ParseFault;
 use vod_grammar::{Phrase, Reader, Word, expressions, separated};
 use vod_tree::{
-    Arguments, Connections, Ident, Instance, Instances, NamedArgument, NamedConnection,
+    Arguments, Connections, Ident, Instance, Instances, NamedArgument, NamedConnection, let_go,
 };
 
 /// Instances of a module: its name, their parameters behind `#` or none, each instance's name with its connections in
@@ -68,8 +68,13 @@ impl Phrase for ArgumentPhrase {
         let name = reader.name(at)?;
         reader.word(at, Word::OpenParen)?;
         let value = reader.expression(at)?;
-        reader.word(at, Word::CloseParen)?;
-        Ok(NamedArgument { place, name, value })
+        match reader.word(at, Word::CloseParen) {
+            Ok(_) => Ok(NamedArgument { place, name, value }),
+            Err(fault) => {
+                let_go(value);
+                Err(fault)
+            }
+        }
     }
 }
 
@@ -150,7 +155,15 @@ fn connected_to(
         let value = None;
         return Ok(NamedConnection { place, name, value });
     }
-    let value = Some(reader.expression(at)?);
-    reader.word(at, Word::CloseParen)?;
-    Ok(NamedConnection { place, name, value })
+    let value = reader.expression(at)?;
+    match reader.word(at, Word::CloseParen) {
+        Ok(_) => {
+            let value = Some(value);
+            Ok(NamedConnection { place, name, value })
+        }
+        Err(fault) => {
+            let_go(value);
+            Err(fault)
+        }
+    }
 }

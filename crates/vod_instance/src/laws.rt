@@ -30,6 +30,7 @@ pub fn gates_are_exact()
     ensures other { (w : Word) (t : Lexeme) → Is w t → starts_gate t ≡ is_gate_word w }
     ensures name { (t : Lexeme) → IsName t → starts_gate t ≡ false }
 {
+    // Words, names and expressions are read exactly, of which the form is made.
     phrases_are_exact();
 }
 
@@ -43,7 +44,9 @@ pub fn instances_are_exact()
     ensures first { (ts : List Lexeme) (x : Instances) → AreInstances ts x → (t : Lexeme) × (us : List Lexeme) × (ts ≡ t ∷ us) × IsName t }
     ensures begins { (t : Lexeme) → IsName t → Begun instances_form.phrase (t ∷ []) }
 {
+    // Words, names and expressions are read exactly, of which the form is made.
     phrases_are_exact();
+    // An expression has one answer, and is read whole before a token that ends it; none begins with any other token.
     one_answer();
     answer_before();
     none_begins();
