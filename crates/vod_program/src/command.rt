@@ -11,7 +11,7 @@ use vod_thin_window::Window;
 const MAX_TIME: u64 = 9_223_372_036_854_775_807;
 
 /// What the program is asked for.
-#[derive(Clone, Copy, PartialEq, Eq)]
+#[derive(Clone, Copy)]
 pub enum Command {
     /// `record DESIGN LOG`
     Record,

@@ -9,7 +9,7 @@ use vod_text::put_decimal;
 use vod_thin_replay::RangeFault;
 
 /// What a call can't do yet, or not with what it was handed.
-#[derive(Clone, Copy, PartialEq, Eq)]
+#[derive(Clone, Copy)]
 pub enum Part {
     /// The source isn't of the thin form; the place is a byte offset.
     Design,
@@ -20,7 +20,7 @@ pub enum Part {
 }
 
 /// How a call ended. Times are those of the log.
-#[derive(Clone, Copy, PartialEq, Eq)]
+#[derive(Clone, Copy)]
 pub enum Status {
     /// The whole answer was written, or all was recorded.
     Ok,
@@ -76,7 +76,7 @@ impl Status {
 }
 
 /// Why a command has no answer.
-#[derive(Clone, Copy, PartialEq, Eq)]
+#[derive(Clone, Copy)]
 pub enum Fault {
     Usage,
     NotYet(Part, u64),

@@ -2,6 +2,7 @@ use Rattle.std.proofs.Common.{◌≡◌, ◌∙◌, ap, sym, subst, Err, length}
 use Rattle.std.proofs.lemmas.Result.{err_from_is_err_and}
 use Rattle.vod_thin.specs.Thin.{IsThin}
 use Rattle.vod_thin.specs.Faults.{IsFault}
+use Rattle.vod_program.specs.declared.status.Part.TheVariants as part
 use Rattle.vod_program.proofs.PhaseLaws.{all_told, design_refused, handed}
 use Rattle.vod_program.proofs.phase.reading_of.Goals as goal
 
@@ -24,4 +25,4 @@ returns-in_err-design-clause-refused g c =
     let p = err_from_is_err_and c.from_residual-in_err-design.result c.from_residual-in_err-design.ensures.1 in
     let came = c.in_ok-text.ensures in
     let fault = design_refused c.in_ok-text.text.more c.in_ok-text.text.bytes.items _ c.in_err-design.field-0.0 came.front came.more (subst (λ b. IsFault b c.in_ok-text.text.more c.in_err-design.field-0.0) c.as_slice.ensures.value c.in_err-design.ensures.refused) in
-    handed c.from_residual-in_err-design.result p.0 _ _ p.1 p.2 fault
+    handed part.Design c.from_residual-in_err-design.result p.0 _ _ p.1 p.2 fault

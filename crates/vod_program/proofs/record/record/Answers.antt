@@ -8,8 +8,8 @@ use Rattle.vod_program.proofs.AnswerLaws.{asked, request, same_request}
 use Rattle.vod_program.proofs.RecordLaws.{IsCreated, begun_with, record_left, said_behind}
 use Rattle.vod_program.proofs.record.record.Goals as goal
 
-pub returns-in-Ok-record-clause-answers : goal.returns-in-Ok-record-clause-answers
-returns-in-Ok-record-clause-answers g c =
+pub returns-in-Ok-clause-answers : goal.returns-in-Ok-clause-answers
+returns-in-Ok-clause-answers g c =
     let i : Inputs = record {
       source = g.D.Source.left c.args.design.now;
       script = g.S.Source.left c.args.input.now;
@@ -20,25 +20,25 @@ returns-in-Ok-record-clause-answers g c =
     let mid : View = g.L.Deck.view c.open_fresh.new.deck in
     let new : View = g.L.Deck.view c.record.new.deck in
     let deck : Device = record { told = g.L.Deck.tells; before = old; after = new } in
-    let read = c.in-Ok.ensures in
-    let source = c.in-Ok.reading.source.items in
-    let d = c.in-Ok.reading.design in
-    let vs = c.in-Ok-recordable_of.past.vectors in
-    let lawful : IsLawful d vs = subst (λ e. IsLawful e vs) c.in-Ok-recordable_of.ensures.design c.vectors-vectors.ensures.lawful in
+    let read = c.in_ok-reading.ensures in
+    let source = c.in_ok-reading.reading.source.items in
+    let d = c.in_ok-reading.reading.design in
+    let vs = c.in_ok-past.past.vectors in
+    let lawful : IsLawful d vs = subst (λ e. IsLawful e vs) c.in_ok-past.ensures.design c.vectors-vectors.ensures.lawful in
     let tail = c.in_ok-tail.ensures in
     let begins : g.L.Deck.tells → (m : Outcome) → mid.may_leave m → (m.file ≡ 0 ∷ []) × IsCreated old m =
     λ told. begun_with old mid (tail.crashes told) (λ t o. g.met.L.Deck.counts_now c.open_fresh.new.deck t o) (λ o. g.met.L.Deck.only_now c.args.deck.now o) (tail.settled told).lasts (tail.created told) in
-    let done = c.in-Ok-record.ensures in
-    asked i (IsRecorded deck) source d vs read.told read.source c.in-Ok-recordable_of.ensures.vectors lawful (record {
-      few = c.in-Ok-recordable_of.ensures.few;
+    let done = c.in-Ok.ensures in
+    asked i (IsRecorded deck) source d vs read.told read.source c.in_ok-past.ensures.vectors lawful (record {
+      few = c.in_ok-past.ensures.few;
       fresh = λ told. (tail.fresh told).0;
       sound = λ told. same_request (λ r. IsSound r.design r.source 4096 r.vectors new.bytes) _ source d _ vs c.as_slice-source.ensures.value c.vectors-vectors.ensures.items (done.held told);
       lasts = done.lasts;
       says = λ told o may. said_behind old mid (said vs) o (λ m left. (begins told m left).1) (subst (λ us. From mid.may_leave (HasSaid (said us)) o) c.vectors-vectors.ensures.items (done.said told o may));
     })
 
-pub returns-in-Ok-record-clause-crashes : goal.returns-in-Ok-record-clause-crashes
-returns-in-Ok-record-clause-crashes g c =
+pub returns-in-Ok-clause-crashes : goal.returns-in-Ok-clause-crashes
+returns-in-Ok-clause-crashes g c =
     let i : Inputs = record {
       source = g.D.Source.left c.args.design.now;
       script = g.S.Source.left c.args.input.now;
@@ -49,16 +49,16 @@ returns-in-Ok-record-clause-crashes g c =
     let mid : View = g.L.Deck.view c.open_fresh.new.deck in
     let new : View = g.L.Deck.view c.record.new.deck in
     let deck : Device = record { told = g.L.Deck.tells; before = old; after = new } in
-    let read = c.in-Ok.ensures in
-    let source = c.in-Ok.reading.source.items in
-    let d = c.in-Ok.reading.design in
-    let vs = c.in-Ok-recordable_of.past.vectors in
-    let lawful : IsLawful d vs = subst (λ e. IsLawful e vs) c.in-Ok-recordable_of.ensures.design c.vectors-vectors.ensures.lawful in
+    let read = c.in_ok-reading.ensures in
+    let source = c.in_ok-reading.reading.source.items in
+    let d = c.in_ok-reading.reading.design in
+    let vs = c.in_ok-past.past.vectors in
+    let lawful : IsLawful d vs = subst (λ e. IsLawful e vs) c.in_ok-past.ensures.design c.vectors-vectors.ensures.lawful in
     let tail = c.in_ok-tail.ensures in
     let begins : g.L.Deck.tells → (m : Outcome) → mid.may_leave m → (m.file ≡ 0 ∷ []) × IsCreated old m =
     λ told. begun_with old mid (tail.crashes told) (λ t o. g.met.L.Deck.counts_now c.open_fresh.new.deck t o) (λ o. g.met.L.Deck.only_now c.args.deck.now o) (tail.settled told).lasts (tail.created told) in
     λ told. record_left i deck mid (request source d vs) (tail.fresh told).0
-    (λ P p. asked i P source d vs read.told read.source c.in-Ok-recordable_of.ensures.vectors lawful p)
+    (λ P p. asked i P source d vs read.told read.source c.in_ok-past.ensures.vectors lawful p)
     (tail.crashes told) (begins told)
     (same_request (λ r. Leaves mid new (From mid.may_leave (Records r.design r.source r.vectors))) _ source d _ vs c.as_slice-source.ensures.value c.vectors-vectors.ensures.items (c.record.ensures.crashes told))
 
@@ -74,15 +74,15 @@ returns-clause-crashes g c =
     let mid : View = g.L.Deck.view c.open_fresh.new.deck in
     let new : View = g.L.Deck.view c.record.new.deck in
     let deck : Device = record { told = g.L.Deck.tells; before = old; after = new } in
-    let read = c.in-Ok.ensures in
-    let source = c.in-Ok.reading.source.items in
-    let d = c.in-Ok.reading.design in
-    let vs = c.in-Ok-recordable_of.past.vectors in
-    let lawful : IsLawful d vs = subst (λ e. IsLawful e vs) c.in-Ok-recordable_of.ensures.design c.vectors-vectors.ensures.lawful in
+    let read = c.in_ok-reading.ensures in
+    let source = c.in_ok-reading.reading.source.items in
+    let d = c.in_ok-reading.reading.design in
+    let vs = c.in_ok-past.past.vectors in
+    let lawful : IsLawful d vs = subst (λ e. IsLawful e vs) c.in_ok-past.ensures.design c.vectors-vectors.ensures.lawful in
     let tail = c.in_ok-tail.ensures in
     let begins : g.L.Deck.tells → (m : Outcome) → mid.may_leave m → (m.file ≡ 0 ∷ []) × IsCreated old m =
     λ told. begun_with old mid (tail.crashes told) (λ t o. g.met.L.Deck.counts_now c.open_fresh.new.deck t o) (λ o. g.met.L.Deck.only_now c.args.deck.now o) (tail.settled told).lasts (tail.created told) in
     λ told. record_left i deck mid (request source d vs) (tail.fresh told).0
-    (λ P p. asked i P source d vs read.told read.source c.in-Ok-recordable_of.ensures.vectors lawful p)
+    (λ P p. asked i P source d vs read.told read.source c.in_ok-past.ensures.vectors lawful p)
     (tail.crashes told) (begins told)
     (same_request (λ r. Leaves mid new (From mid.may_leave (Records r.design r.source r.vectors))) _ source d _ vs c.as_slice-source.ensures.value c.vectors-vectors.ensures.items (c.record.ensures.crashes told))

@@ -13,11 +13,11 @@ returns-in-Ok-clause-answered g c =
       inputs = record {
         source = g.D.Source.left c.args.design.now;
         script = g.S.Source.left c.args.input.now;
-        design_faults = record { before = g.D.Source.faults c.args.design.now; after = g.D.Source.faults c.answer.new.design };
-        input_faults = record { before = g.S.Source.faults c.args.input.now; after = g.S.Source.faults c.answer.new.input };
+        design_faults = record { before = g.D.Source.faults c.args.design.now; after = g.D.Source.faults c.answer-ended.new.design };
+        input_faults = record { before = g.S.Source.faults c.args.input.now; after = g.S.Source.faults c.answer-ended.new.input };
       };
-      output = record { before = g.K.Sink.taken c.args.out.now; after = g.K.Sink.taken c.answer.new.out; faults = record { before = g.K.Sink.faults c.args.out.now; after = g.K.Sink.faults c.answer.new.out } };
-      device = record { told = g.L.Deck.tells; before = g.L.Deck.view c.args.deck.now; after = g.L.Deck.view c.answer.new.deck };
+      output = record { before = g.K.Sink.taken c.args.out.now; after = g.K.Sink.taken c.answer-ended.new.out; faults = record { before = g.K.Sink.faults c.args.out.now; after = g.K.Sink.faults c.answer-ended.new.out } };
+      device = record { told = g.L.Deck.tells; before = g.L.Deck.view c.args.deck.now; after = g.L.Deck.view c.answer-ended.new.deck };
     } in
     let one : OneAnswer = one_answer c.one_design.ensures c.one_place.ensures.refused c.one_place.ensures.thin c.plain_names.ensures c.one_reading.ensures c.one_refusal.ensures.line c.one_refusal.ensures.unread in
     let held : Held = record { laws = record { one_head = c.one_head.ensures; one_design = one.design }; undamaged = c.sound_is_undamaged.ensures.batches } in
@@ -31,11 +31,11 @@ returns-in-Err-clause-answered g c =
       inputs = record {
         source = g.D.Source.left c.args.design.now;
         script = g.S.Source.left c.args.input.now;
-        design_faults = record { before = g.D.Source.faults c.args.design.now; after = g.D.Source.faults c.answer.new.design };
-        input_faults = record { before = g.S.Source.faults c.args.input.now; after = g.S.Source.faults c.answer.new.input };
+        design_faults = record { before = g.D.Source.faults c.args.design.now; after = g.D.Source.faults c.answer-ended.new.design };
+        input_faults = record { before = g.S.Source.faults c.args.input.now; after = g.S.Source.faults c.answer-ended.new.input };
       };
-      output = record { before = g.K.Sink.taken c.args.out.now; after = g.K.Sink.taken c.answer.new.out; faults = record { before = g.K.Sink.faults c.args.out.now; after = g.K.Sink.faults c.answer.new.out } };
-      device = record { told = g.L.Deck.tells; before = g.L.Deck.view c.args.deck.now; after = g.L.Deck.view c.answer.new.deck };
+      output = record { before = g.K.Sink.taken c.args.out.now; after = g.K.Sink.taken c.answer-ended.new.out; faults = record { before = g.K.Sink.faults c.args.out.now; after = g.K.Sink.faults c.answer-ended.new.out } };
+      device = record { told = g.L.Deck.tells; before = g.L.Deck.view c.args.deck.now; after = g.L.Deck.view c.answer-ended.new.deck };
     } in
     let one : OneAnswer = one_answer c.one_design.ensures c.one_place.ensures.refused c.one_place.ensures.thin c.plain_names.ensures c.one_reading.ensures c.one_refusal.ensures.line c.one_refusal.ensures.unread in
     let held : Held = record { laws = record { one_head = c.one_head.ensures; one_design = one.design }; undamaged = c.sound_is_undamaged.ensures.batches } in
@@ -52,24 +52,24 @@ returns-in-Err-clause-quiet g c =
 
 pub returns-in-Ok-clause-reads : goal.returns-in-Ok-clause-reads
 returns-in-Ok-clause-reads g c =
-    let deck : Device = record { told = g.L.Deck.tells; before = g.L.Deck.view c.args.deck.now; after = g.L.Deck.view c.answer.new.deck } in
-    let i : Inputs = inputs_of (g.D.Source.left c.args.design.now) (g.S.Source.left c.args.input.now) (g.D.Source.faults c.args.design.now) (g.D.Source.faults c.answer.new.design) (g.S.Source.faults c.args.input.now) (g.S.Source.faults c.answer.new.input) in
-    λ told. reads_left i deck (c.answer.ensures.crashes told) (λ t o. g.met.L.Deck.counts_now c.answer.new.deck t o) (λ o. g.met.L.Deck.only_now c.args.deck.now o) (c.lives.ensures told)
+    let deck : Device = record { told = g.L.Deck.tells; before = g.L.Deck.view c.args.deck.now; after = g.L.Deck.view c.answer-ended.new.deck } in
+    let i : Inputs = inputs_of (g.D.Source.left c.args.design.now) (g.S.Source.left c.args.input.now) (g.D.Source.faults c.args.design.now) (g.D.Source.faults c.answer-ended.new.design) (g.S.Source.faults c.args.input.now) (g.S.Source.faults c.answer-ended.new.input) in
+    λ told. reads_left i deck (c.answer-ended.ensures.crashes told) (λ t o. g.met.L.Deck.counts_now c.answer-ended.new.deck t o) (λ o. g.met.L.Deck.only_now c.args.deck.now o) (c.lives.ensures told)
 
 pub returns-in-Err-clause-reads : goal.returns-in-Err-clause-reads
 returns-in-Err-clause-reads g c =
-    let deck : Device = record { told = g.L.Deck.tells; before = g.L.Deck.view c.args.deck.now; after = g.L.Deck.view c.answer.new.deck } in
-    let i : Inputs = inputs_of (g.D.Source.left c.args.design.now) (g.S.Source.left c.args.input.now) (g.D.Source.faults c.args.design.now) (g.D.Source.faults c.answer.new.design) (g.S.Source.faults c.args.input.now) (g.S.Source.faults c.answer.new.input) in
-    λ told. reads_left i deck (c.answer.ensures.crashes told) (λ t o. g.met.L.Deck.counts_now c.answer.new.deck t o) (λ o. g.met.L.Deck.only_now c.args.deck.now o) (c.lives.ensures told)
+    let deck : Device = record { told = g.L.Deck.tells; before = g.L.Deck.view c.args.deck.now; after = g.L.Deck.view c.answer-ended.new.deck } in
+    let i : Inputs = inputs_of (g.D.Source.left c.args.design.now) (g.S.Source.left c.args.input.now) (g.D.Source.faults c.args.design.now) (g.D.Source.faults c.answer-ended.new.design) (g.S.Source.faults c.args.input.now) (g.S.Source.faults c.answer-ended.new.input) in
+    λ told. reads_left i deck (c.answer-ended.ensures.crashes told) (λ t o. g.met.L.Deck.counts_now c.answer-ended.new.deck t o) (λ o. g.met.L.Deck.only_now c.args.deck.now o) (c.lives.ensures told)
 
 pub returns-in-Ok-clause-acknowledged : goal.returns-in-Ok-clause-acknowledged
 returns-in-Ok-clause-acknowledged g c =
-    let deck : Device = record { told = g.L.Deck.tells; before = g.L.Deck.view c.args.deck.now; after = g.L.Deck.view c.answer.new.deck } in
-    let i : Inputs = inputs_of (g.D.Source.left c.args.design.now) (g.S.Source.left c.args.input.now) (g.D.Source.faults c.args.design.now) (g.D.Source.faults c.answer.new.design) (g.S.Source.faults c.args.input.now) (g.S.Source.faults c.answer.new.input) in
-    λ told. acknowledged_left c.said_is_held.ensures i deck (c.answer.ensures.crashes told) (λ o. g.met.L.Deck.only_now c.args.deck.now o)
+    let deck : Device = record { told = g.L.Deck.tells; before = g.L.Deck.view c.args.deck.now; after = g.L.Deck.view c.answer-ended.new.deck } in
+    let i : Inputs = inputs_of (g.D.Source.left c.args.design.now) (g.S.Source.left c.args.input.now) (g.D.Source.faults c.args.design.now) (g.D.Source.faults c.answer-ended.new.design) (g.S.Source.faults c.args.input.now) (g.S.Source.faults c.answer-ended.new.input) in
+    λ told. acknowledged_left c.said_is_held.ensures i deck (c.answer-ended.ensures.crashes told) (λ o. g.met.L.Deck.only_now c.args.deck.now o)
 
 pub returns-in-Err-clause-acknowledged : goal.returns-in-Err-clause-acknowledged
 returns-in-Err-clause-acknowledged g c =
-    let deck : Device = record { told = g.L.Deck.tells; before = g.L.Deck.view c.args.deck.now; after = g.L.Deck.view c.answer.new.deck } in
-    let i : Inputs = inputs_of (g.D.Source.left c.args.design.now) (g.S.Source.left c.args.input.now) (g.D.Source.faults c.args.design.now) (g.D.Source.faults c.answer.new.design) (g.S.Source.faults c.args.input.now) (g.S.Source.faults c.answer.new.input) in
-    λ told. acknowledged_left c.said_is_held.ensures i deck (c.answer.ensures.crashes told) (λ o. g.met.L.Deck.only_now c.args.deck.now o)
+    let deck : Device = record { told = g.L.Deck.tells; before = g.L.Deck.view c.args.deck.now; after = g.L.Deck.view c.answer-ended.new.deck } in
+    let i : Inputs = inputs_of (g.D.Source.left c.args.design.now) (g.S.Source.left c.args.input.now) (g.D.Source.faults c.args.design.now) (g.D.Source.faults c.answer-ended.new.design) (g.S.Source.faults c.args.input.now) (g.S.Source.faults c.answer-ended.new.input) in
+    λ told. acknowledged_left c.said_is_held.ensures i deck (c.answer-ended.ensures.crashes told) (λ o. g.met.L.Deck.only_now c.args.deck.now o)

@@ -23,12 +23,12 @@ returns-in-Err-read_vectors-clause-answers g c =
     let deck : Device = record { told = g.L.Deck.tells; before = g.L.Deck.view c.args.deck.now; after = g.L.Deck.view c.read_vectors.new.deck } in
     let window = c.args.window in
     let source = c.in-Ok.source.now in
-    let d = c.in-Ok-held_design.design in
+    let d = c.in_ok-design.design in
     let inside : g.L.Deck.tells → IsInside deck.before.bytes window = c.in_ok-log.ensures.inside in
     let first : g.L.Deck.tells → (g.L.Deck.view c.open_window.new.deck).bytes ≡ deck.before.bytes = λ told. (c.in_ok-log.ensures.unchanged told).bytes in
     let second : g.L.Deck.tells → (g.L.Deck.view c.read_source.new.deck).bytes ≡ deck.before.bytes = λ told. (c.in-Ok.ensures.unchanged told).bytes ∙ first told in
     let has : g.L.Deck.tells → HoldsSource deck.before.bytes source = λ told. subst (λ b. HoldsSource b source) (first told) (c.in-Ok.ensures.source told) in
-    let is : IsSource source d = c.in-Ok-held_design.ensures.source in
+    let is : IsSource source d = c.in_ok-design.ensures.source in
     let f = c.in-Err-read_vectors.fault in
     let later : (g.L.Deck.view c.args.deck.now).faults ≤ (g.L.Deck.view c.read_source.new.deck).faults = omega (arith, c.in_ok-log.ensures.later, c.in-Ok.ensures.later) in
     subst (λ s. WindowAnswers out deck window (Err s)) (sym c.replay_fault-in-Err-read_vectors.ensures)
@@ -42,12 +42,12 @@ returns-in-Ok-write_window-clause-answers g c =
     let deck : Device = record { told = g.L.Deck.tells; before = g.L.Deck.view c.args.deck.now; after = g.L.Deck.view c.read_vectors.new.deck } in
     let window = c.args.window in
     let source = c.in-Ok.source.now in
-    let d = c.in-Ok-held_design.design in
+    let d = c.in_ok-design.design in
     let inside : g.L.Deck.tells → IsInside deck.before.bytes window = c.in_ok-log.ensures.inside in
     let first : g.L.Deck.tells → (g.L.Deck.view c.open_window.new.deck).bytes ≡ deck.before.bytes = λ told. (c.in_ok-log.ensures.unchanged told).bytes in
     let second : g.L.Deck.tells → (g.L.Deck.view c.read_source.new.deck).bytes ≡ deck.before.bytes = λ told. (c.in-Ok.ensures.unchanged told).bytes ∙ first told in
     let has : g.L.Deck.tells → HoldsSource deck.before.bytes source = λ told. subst (λ b. HoldsSource b source) (first told) (c.in-Ok.ensures.source told) in
-    let is : IsSource source d = c.in-Ok-held_design.ensures.source in
+    let is : IsSource source d = c.in_ok-design.ensures.source in
     let laws : Laws = record { one_head = c.one_head.ensures; one_design = λ s e f a b. c.one_design.ensures s e f a.thin b.thin } in
     let us = c.in-Ok-read_vectors.past.vectors in
     let reads : g.L.Deck.tells → IsHeldUpTo d deck.before.bytes window.to us = λ told. subst (λ b. IsHeldUpTo d b window.to us) (second told) (c.in-Ok-read_vectors.ensures.held told) in
@@ -68,12 +68,12 @@ returns-clause-answers g c =
     let deck : Device = record { told = g.L.Deck.tells; before = g.L.Deck.view c.args.deck.now; after = g.L.Deck.view c.read_vectors.new.deck } in
     let window = c.args.window in
     let source = c.in-Ok.source.now in
-    let d = c.in-Ok-held_design.design in
+    let d = c.in_ok-design.design in
     let inside : g.L.Deck.tells → IsInside deck.before.bytes window = c.in_ok-log.ensures.inside in
     let first : g.L.Deck.tells → (g.L.Deck.view c.open_window.new.deck).bytes ≡ deck.before.bytes = λ told. (c.in_ok-log.ensures.unchanged told).bytes in
     let second : g.L.Deck.tells → (g.L.Deck.view c.read_source.new.deck).bytes ≡ deck.before.bytes = λ told. (c.in-Ok.ensures.unchanged told).bytes ∙ first told in
     let has : g.L.Deck.tells → HoldsSource deck.before.bytes source = λ told. subst (λ b. HoldsSource b source) (first told) (c.in-Ok.ensures.source told) in
-    let is : IsSource source d = c.in-Ok-held_design.ensures.source in
+    let is : IsSource source d = c.in_ok-design.ensures.source in
     let laws : Laws = record { one_head = c.one_head.ensures; one_design = λ s e f a b. c.one_design.ensures s e f a.thin b.thin } in
     let us = c.in-Ok-read_vectors.past.vectors in
     let reads : g.L.Deck.tells → IsHeldUpTo d deck.before.bytes window.to us = λ told. subst (λ b. IsHeldUpTo d b window.to us) (second told) (c.in-Ok-read_vectors.ensures.held told) in
