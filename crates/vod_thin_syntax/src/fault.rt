@@ -1,5 +1,6 @@
 //! Why a source has no sentence.
 use std::alloc::{AllocError, AllocFailed};
+use std::fmt;
 
 /// Why a source has no sentence.
 #[derive(Clone, Copy, Debug, PartialEq, Eq)]
@@ -31,3 +32,18 @@ impl<T: Drop> From<AllocFailed<T>> for SyntaxFault {
         SyntaxFault::Memory
     }
 }
+
+impl fmt::Display for SyntaxFault {
+    fn fmt<W: fmt::Write>(&self, f: &mut fmt::Formatter<W>) -> fmt::Result {
+        match self {
+            SyntaxFault::At(place) => write!(
+                f,
+                "the source isn't of the thin form: byte {}",
+                place
+            ),
+            SyntaxFault::Memory => f.write_str("there was no memory"),
+        }
+    }
+}
+
+impl std::error::Error for SyntaxFault {}

@@ -40,6 +40,7 @@ pub fn read_sentence(alloc: Global, source: &[u8], more: bool) -> Result<Sentenc
     ensures refuses { (place : ℕ) → IsRefusedAt source.now more place →
         MatchResult result (λ _. ⊥) (λ fault. (fault ≢ SyntaxFault.Memory) → fault ≡ SyntaxFault.At place) }
 {
+    // A source falls into tokens in one way.
     one_cut();
     read(alloc, source, more)
 }
@@ -53,6 +54,7 @@ pub fn one_sentence()
     ensures refused_once { (source : List ℕ) (more : Bool) (place other : ℕ) →
         IsRefusedAt source more place → IsRefusedAt source more other → place ≡ other }
 {
+    // A source falls into tokens in one way.
     one_cut();
 }
 
@@ -64,6 +66,7 @@ fn read(alloc: Global, source: &[u8], more: bool) -> Result<Sentence, SyntaxFaul
     ensures whole { IfOk result (λ _. more ≡ false) }
     ensures fault { IfErr result (IsFault source.now more) }
 {
+    // A source falls into tokens in one way.
     one_cut();
     let cut = read_tokens(alloc, source)?;
     let limit = first_past(alloc, source, &cut.list)?;
@@ -95,7 +98,7 @@ fn is_cut_off(more: bool, stop: Option<u32>) -> bool
 }
 
 /// Why tokens aren't a sentence.
-#[derive(Clone, Copy, Debug)]
+#[derive(Clone, Copy)]
 pub(crate) enum Break {
     /// The number of the first token that can't stand there, or how many there are.
     At(u32),

@@ -11,7 +11,7 @@ use std::alloc::{AllocError, AllocFailed};
 use vod_token::Token;
 
 /// Why reading stops: the token that comes next can't stand there, or memory ran out.
-#[derive(Clone, Copy, Debug)]
+#[derive(Clone, Copy)]
 pub enum Stop {
     Refused,
     Memory,
@@ -40,7 +40,7 @@ impl<T: Drop> From<AllocFailed<T>> for Stop {
 }
 
 /// A source and its tokens. Where reading stands is the number of the token that comes next.
-#[derive(Clone, Copy, Debug)]
+#[derive(Clone, Copy)]
 pub struct Reader<'s> {
     pub source: &'s [u8],
     pub tokens: &'s [Token],

@@ -5,7 +5,7 @@ ghost use Rattle.vod_thin_syntax.specs.Reader.{after_name, after_operand_word, a
 use crate::words::Word;
 
 /// What comes next: an operand; a name or a parenthesis behind `~`; or what stands behind an operand.
-#[derive(Clone, Copy, Debug)]
+#[derive(Clone, Copy)]
 pub enum Head {
     Operand,
     Inverted,
@@ -13,7 +13,7 @@ pub enum Head {
 }
 
 /// A right side as far as it was read: what comes next, and how many parentheses are open.
-#[derive(Clone, Copy, Debug)]
+#[derive(Clone, Copy)]
 pub struct Scan {
     pub head: Head,
     pub depth: usize,

@@ -2,28 +2,28 @@
 use vod_token::Token;
 
 /// The direction of a port (IEEE 1364-2005, 12.3.3).
-#[derive(Clone, Copy, Debug, PartialEq, Eq)]
+#[derive(Clone, Copy, PartialEq, Eq)]
 pub enum Direction {
     Input,
     Output,
 }
 
 /// `input NAME` or `output NAME`.
-#[derive(Clone, Copy, Debug)]
+#[derive(Clone, Copy)]
 pub struct Port {
     pub direction: Direction,
     pub name: Token,
 }
 
 /// A range of a list of tokens, from the first on and before the last, by their numbers in the list.
-#[derive(Clone, Copy, Debug)]
+#[derive(Clone, Copy)]
 pub struct Span {
     pub from: u32,
     pub to: u32,
 }
 
 /// An item of a module. The tokens of a right side are a range of the sentence's.
-#[derive(Clone, Copy, Debug)]
+#[derive(Clone, Copy)]
 pub enum Item {
     /// `wire NAME;` (4.2)
     Wire {
@@ -48,7 +48,7 @@ pub enum Item {
 }
 
 /// A module: its name, its ports, of which there is one at least, and its items (12.1).
-#[derive(Debug, Drop)]
+#[derive(Drop)]
 pub struct Module {
     pub name: Token,
     pub ports: Vec<Port>,
@@ -57,7 +57,7 @@ pub struct Module {
 
 /// The tokens of a source, the module that they are, and the first place past a limit, if there is one: a name of more
 /// than 1,024 bytes, a 257th input, output, wire or register, or the nesting 65.
-#[derive(Debug, Drop)]
+#[derive(Drop)]
 pub struct Sentence {
     pub tokens: Vec<Token>,
     pub module: Module,

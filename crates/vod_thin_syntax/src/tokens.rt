@@ -23,6 +23,7 @@ pub(crate) fn read_tokens(alloc: Global, source: &[u8]) -> Result<Tokens, AllocE
     ensures lie { IfOk result (λ tokens. All (LiesIn source.now) tokens.list.items) }
     ensures few { IfOk result (λ tokens. length tokens.list.items ≤ 2 ^ 20) }
 {
+    // Bytes hold one longest token at their front, which has a byte.
     one_token();
     let cut = cut(alloc, source)?;
     Ok(cut)
@@ -68,6 +69,7 @@ fn next_token(rest: &[u8], at: usize) -> Option<Token>
     ensures some { IfSome result (λ token. Continues at rest.now token) }
     ensures none { IfNone result (HoldsNone rest.now) }
 {
+    // Bytes hold one longest token at their front, which has a byte and one form.
     one_token();
     one_form();
     let Some((kind, len)) = longest_token(rest) else {
@@ -99,5 +101,6 @@ pub fn one_cut()
     ensures { (source : List ℕ) (ts us : List Token) (stop other : Option ℕ) →
         Falls 0 source ts stop → Falls 0 source us other → (ts ≡ us) × (stop ≡ other) }
 {
+    // Bytes hold one longest token at their front, which has a byte.
     one_token();
 }

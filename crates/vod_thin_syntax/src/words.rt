@@ -4,7 +4,7 @@ ghost use Rattle.std.specs.Str.{bytes_eq};
 ghost use Rattle.vod_thin_syntax.specs.Words.{keyword_of, symbol_of, word_of};
 
 /// A word, number or symbol of the thin form that is spelled in one way.
-#[derive(Clone, Copy, Debug, PartialEq, Eq)]
+#[derive(Clone, Copy, PartialEq, Eq)]
 pub enum Word {
     Module,
     Input,
