@@ -9,10 +9,10 @@ ghost use Rattle.vod_thin.specs.Machine.{read_expr};
 ghost use Rattle.vod_thin.specs.Netlists.{design_by};
 ghost use Rattle.vod_thin.specs.Thin.{IsThin, IsRefused};
 
-use crate::ThinFault;
 use crate::judge::{Judge, judge_names, sooner};
 use crate::netlist::Builder;
 use crate::text::Text;
+use crate::{ThinFault, let_go};
 use std::alloc::{AllocError, Global};
 use vod_design::thin::{Design, expr_by_operands};
 use vod_thin_syntax::{
@@ -113,9 +113,14 @@ fn sentence_design(alloc: Global, source: &[u8], sentence: &Sentence) -> Result<
     };
     let judged = judge_names(alloc, &text, &sentence.module)?;
     match sooner(sentence.limit, judged.fault) {
-        Some(place) => Err(ThinFault::At(place)),
+        Some(place) => {
+            let_go(judged);
+            Err(ThinFault::At(place))
+        }
         None => {
-            let design = build(alloc, text, &judged.names, &sentence.module)?;
+            let built = build(alloc, text, &judged.names, &sentence.module);
+            let_go(judged);
+            let design = built?;
             Ok(design)
         }
     }
