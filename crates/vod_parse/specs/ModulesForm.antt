@@ -20,6 +20,10 @@ use Rattle.vod_parse.specs.Modules.{module_tree}
 abbrev pub header_form : Form (Option (List ParameterPort))
 header_form = either word.Hash (λ _. mapped (λ ps. Some ps) parameter_ports) (give None)
 
+-- behind the ports: `;`, items and `endmodule`, as the code reads them
+abbrev pub enclosed_items : ℕ → Form (List Item)
+enclosed_items size = then (word_form word.Semicolon) (λ _. then (items_form size) (λ xs. mapped (λ _. xs) (word_form word.Endmodule)))
+
 -- behind the ports: `;`, items and `endmodule`; a module by the number of its tokens
 abbrev pub body_form : ℕ → (List Item → ℕ → Module) → Form (ℕ → Module)
 body_form size build = then (word_form word.Semicolon) (λ _. then (items_form size) (λ xs. mapped (λ _. build xs) (word_form word.Endmodule)))

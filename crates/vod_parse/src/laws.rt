@@ -30,6 +30,7 @@ pub fn sources_are_exact()
     ensures deep { (size : ℕ) (front : List Lexeme) (t : Lexeme) → (source_form size).deep front t → IsTooDeep front t ⊎ (size ≤ length front) }
     ensures below { (size : ℕ) (front : List Lexeme) (t : Lexeme) → IsTooDeep front t → (source_form size).deep front t }
 {
+    // The forms of which that of sources is made are read exactly: each crate below says so of its own.
     phrases_are_exact();
     left_sides_are_exact();
     statements_are_exact();

@@ -3,7 +3,7 @@ ghost use Rattle.std.specs.Prelude.{◌≡◌, None, length};
 ghost use Rattle.vod_grammar.specs.Read.{first, passes, repeat};
 ghost use Rattle.vod_grammar.specs.State.{left, Gives, GivesAs, IsOfSource};
 ghost use Rattle.vod_parse.specs.Modules.{capped};
-ghost use Rattle.vod_parse.specs.ModulesForm.{any, header_form, module_form, part_form, source_form};
+ghost use Rattle.vod_parse.specs.ModulesForm.{any, enclosed_items, header_form, module_form, part_form, source_form};
 
 use crate::items::items;
 use sqlite_items::Items;
@@ -11,7 +11,7 @@ use vod_declaration::{parameter_ports, ports};
 use vod_directive::directive;
 use vod_expr::ParseFault;
 use vod_grammar::{Reader, Word};
-use vod_tree::{Module, ParameterPort, SourceItem, Tree};
+use vod_tree::{Item, Module, ParameterPort, SourceItem, Tree, let_go};
 
 // Directives and modules up to the end.
 pub(crate) fn source(reader: Reader<'_>, at: &mut usize) -> Result<Tree, ParseFault>
@@ -73,18 +73,35 @@ fn module(reader: Reader<'_>, at: &mut usize) -> Result<Module, ParseFault>
     let name = reader.name(at)?;
     let parameters = header(reader, at)?;
     let ports = ports(reader, at)?;
+    match body(reader, at) {
+        Ok(items) => {
+            let tokens = capped(from.saturating_sub(reader.remaining(*at)));
+            Ok(Module {
+                place,
+                name,
+                parameters,
+                ports,
+                items,
+                tokens,
+            })
+        }
+        Err(fault) => {
+            let_go(parameters);
+            let_go(ports);
+            Err(fault)
+        }
+    }
+}
+
+// Behind the ports: `;`, items and `endmodule`.
+fn body(reader: Reader<'_>, at: &mut usize) -> Result<Items<Item>, ParseFault>
+    requires { IsOfSource reader }
+    ensures { Gives result (left reader.entry at.new) ((enclosed_items (length reader.entry.tokens.now)).read (left reader.entry at.old)) }
+{
     reader.word(at, Word::Semicolon)?;
     let items = items(reader, at)?;
     reader.word(at, Word::Endmodule)?;
-    let tokens = capped(from.saturating_sub(reader.remaining(*at)));
-    Ok(Module {
-        place,
-        name,
-        parameters,
-        ports,
-        items,
-        tokens,
-    })
+    Ok(items)
 }
 
 // `#` and parameters, or nothing.

@@ -5,13 +5,13 @@ ghost use Rattle.vod_grammar.specs.Read.{repeat};
 ghost use Rattle.vod_grammar.specs.State.{left, Gives, GivesAs, IsOfSource};
 ghost use Rattle.vod_grammar.specs.Words.{is_word};
 ghost use Rattle.vod_grammar.specs.declared.word.Word.TheVariants.{Comma};
-ghost use Rattle.vod_parse.specs.ProcessesForm.{always_form, assign_form, assignment_form, event_behind, event_form, second_behind, second_form};
+ghost use Rattle.vod_parse.specs.ProcessesForm.{always_form, assign_form, assignment_form, event_behind, event_form, second_behind, second_form, value_form};
 
 use sqlite_items::Items;
 use vod_expr::ParseFault;
 use vod_grammar::{Reader, Word};
 use vod_statement::{Context, left_side, statement};
-use vod_tree::{Always, Assignment, Edge, Event, SecondEvent, Separator};
+use vod_tree::{Always, Assignment, Edge, Event, Lval, SecondEvent, Separator, let_go};
 
 // Behind `always`: its events and its statement.
 pub(crate) fn always(reader: Reader<'_>, at: &mut usize) -> Result<Always, ParseFault>
@@ -126,7 +126,23 @@ fn assignment(reader: Reader<'_>, at: &mut usize) -> Result<Assignment, ParseFau
     ensures { Gives result (left reader.entry at.new) ((assignment_form (length reader.entry.tokens.now)).read (left reader.entry at.old)) }
 {
     let target = left_side(reader, at)?;
-    reader.word(at, Word::Equals)?;
-    let value = reader.expression(at)?;
-    Ok(Assignment { target, value })
+    assigned(reader, at, target)
+}
+
+// Behind a left side: `=` and a value.
+fn assigned(reader: Reader<'_>, at: &mut usize, target: Lval) -> Result<Assignment, ParseFault>
+    requires { IsOfSource reader }
+    ensures { Gives result (left reader.entry at.new) ((value_form target).read (left reader.entry at.old)) }
+{
+    if let Err(fault) = reader.word(at, Word::Equals) {
+        let_go(target);
+        return Err(fault);
+    }
+    match reader.expression(at) {
+        Ok(value) => Ok(Assignment { target, value }),
+        Err(fault) => {
+            let_go(target);
+            Err(fault)
+        }
+    }
 }

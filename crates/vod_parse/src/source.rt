@@ -32,6 +32,7 @@ pub fn read_source(alloc: Global, source: &[u8], tokens: &[Token]) -> Result<Tre
     ensures refuses { (fault : ParseFault) → Refuses IsSource IsTooDeep (lexemes source.now tokens.now) fault →
         MatchResult result (λ read. ⊥) (λ other. (other ≢ ParseFault.Memory) → other ≡ fault) }
 {
+    // Sources are read exactly by their form; and a source's tokens are lexemes, of which that is said.
     sources_are_exact();
     source_lexemes();
     read(alloc, source, tokens)

@@ -84,6 +84,10 @@ start = machine [] (expr.Signal 0)
 abbrev pub last_of : Machine → Expr
 last_of m = m.last
 
+-- the expression behind the last token
+abbrev pub ended : Machine → Expr
+ended m = last_of (reduce 0 m.frames m.last)
+
 -- the expression that these tokens are
 abbrev pub read_expr : List (List ℕ × Kind) → List Mark → Expr
 read_expr signals marks = let m : Machine = run signals start marks in last_of (reduce 0 m.frames m.last)

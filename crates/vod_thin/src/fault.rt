@@ -1,5 +1,6 @@
 //! Why a source has no design.
 use std::alloc::{AllocError, AllocFailed};
+use std::fmt;
 use vod_thin_syntax::SyntaxFault;
 
 /// Why a source has no design.
@@ -46,3 +47,14 @@ impl<T: Drop> From<AllocFailed<T>> for ThinFault {
         ThinFault::Memory
     }
 }
+
+impl fmt::Display for ThinFault {
+    fn fmt<W: fmt::Write>(&self, f: &mut fmt::Formatter<W>) -> fmt::Result {
+        match self {
+            ThinFault::At(place) => write!(f, "the source isn't of the thin form: byte {}", place),
+            ThinFault::Memory => f.write_str("there was no memory"),
+        }
+    }
+}
+
+impl std::error::Error for ThinFault {}

@@ -10,6 +10,7 @@ ghost use Rattle.vod_thin.specs.Rules.{least, place_if, places_where, is_readabl
 ghost use Rattle.vod_thin.specs.Tables.{tables_of, fault_at, with_always, declares_wrongly, assigns_wrongly, differs, waits_wrongly, updates_wrongly, reads_wrongly, read_places, port_places, item_places, with_signal, with_port, first_of, with_item, with_ports, with_items, all_port_places, all_item_places, with_uses, with_all_uses, no_tables};
 ghost use Rattle.vod_thin.specs.View.{first_entries, distinct};
 
+use crate::let_go;
 use crate::names::{Kind, Names, Signals};
 use crate::text::Text;
 use std::alloc::{AllocError, Global};
@@ -95,19 +96,52 @@ fn differs(first: Option<&[u8]>, name: &[u8]) -> bool
     }
 }
 
+// Two tables of names, with room for so many each.
+fn two_tables<'s>(alloc: Global, count: usize) -> Result<(Names<'s>, Names<'s>), AllocError>
+    ensures { IfOk result (λ tables. (tables.0 ≡ []) × (tables.1 ≡ [])) }
+{
+    let first = Names::with_room(alloc, count)?;
+    match Names::with_room(alloc, count) {
+        Ok(second) => Ok((first, second)),
+        Err(fault) => {
+            let_go(first);
+            Err(fault)
+        }
+    }
+}
+
 impl<'s> Judge<'s> {
     /// No names, with room for those of a module.
     fn with_room(alloc: Global, ports: usize, items: usize) -> Result<Judge<'s>, AllocError>
         ensures { IfOk result (λ judge. tables_of judge ≡ no_tables) }
     {
-        Ok(Judge {
-            clocks: Names::with_room(alloc, items)?,
-            assigned: Names::with_room(alloc, items)?,
-            signals: Signals::with_room(alloc, ports.saturating_add(items))?,
-            driven: Names::with_room(alloc, items)?,
-            updated: Names::with_room(alloc, items)?,
-            clock: None,
-        })
+        let of_all = two_tables(alloc, items)?;
+        let of_some = match two_tables(alloc, items) {
+            Ok(tables) => tables,
+            Err(fault) => {
+                let_go(of_all);
+                return Err(fault);
+            }
+        };
+        match Signals::with_room(alloc, ports.saturating_add(items)) {
+            Ok(signals) => {
+                let (clocks, assigned) = of_all;
+                let (driven, updated) = of_some;
+                Ok(Judge {
+                    clocks,
+                    assigned,
+                    signals,
+                    driven,
+                    updated,
+                    clock: None,
+                })
+            }
+            Err(fault) => {
+                let_go(of_all);
+                let_go(of_some);
+                Err(fault)
+            }
+        }
     }
 
     // A signal's name was declared before, or it is a net that is assigned nowhere.
@@ -312,6 +346,19 @@ impl<'s> Judge<'s> {
         }
         Ok(first)
     }
+
+    // The first of a module's names that breaks a rule.
+    fn judge(&mut self, text: &Text<'s>, parsed: &Module) -> Result<Option<u32>, AllocError>
+        requires { tables_of self.old ≡ no_tables }
+        ensures fault { IfOk result (λ fault. fault ≡ least (faults (module_of text.now.source.now text.now.tokens.now parsed.now))) }
+        ensures signals { OnOk result (self.new.signals ≡ first_entries [] (signals_of (module_of text.now.source.now text.now.tokens.now parsed.now))) }
+        ensures clocks { OnOk result (self.new.clocks ≡ distinct [] (texts (clocks (module_of text.now.source.now text.now.tokens.now parsed.now).items))) }
+    {
+        self.add_all_uses(text, &parsed.items)?;
+        let ports = self.judge_ports(text, &parsed.ports)?;
+        let items = self.judge_items(text, &parsed.items)?;
+        Ok(sooner(ports, items))
+    }
 }
 
 /// The names of a module, and the first that breaks a rule.
@@ -332,9 +379,11 @@ pub(crate) fn judge_names<'s>(
     ensures clocks { IfOk result (λ judged. judged.names.clocks ≡ distinct [] (texts (clocks (module_of text.now.source.now text.now.tokens.now parsed.now).items))) }
 {
     let mut names = Judge::with_room(alloc, parsed.ports.len(), parsed.items.len())?;
-    names.add_all_uses(text, &parsed.items)?;
-    let ports = names.judge_ports(text, &parsed.ports)?;
-    let items = names.judge_items(text, &parsed.items)?;
-    let fault = sooner(ports, items);
-    Ok(Judged { names, fault })
+    match names.judge(text, parsed) {
+        Ok(fault) => Ok(Judged { names, fault }),
+        Err(refused) => {
+            let_go(names);
+            Err(refused)
+        }
+    }
 }

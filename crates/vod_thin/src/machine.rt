@@ -4,13 +4,14 @@ ghost use Rattle.vod_design.specs.declared.thin.Expr.TheVariants as expr;
 ghost use Rattle.vod_thin.specs.Machine.{tight, combined, reduce, settled, closed, on_close, on_operator, on_word, start, machine, last_of};
 ghost use Rattle.vod_thin.specs.MachineView.{machine_of, frames_of, binds, taken_in, RestsAt};
 
+use crate::let_go;
 use sqlite_items::{Boxed, Items};
 use std::alloc::{AllocError, Global};
 use vod_design::thin::Expr;
 use vod_thin_syntax::Word;
 
 /// An operator of two operands.
-#[derive(Clone, Copy, Debug, PartialEq, Eq)]
+#[derive(Clone, Copy, PartialEq, Eq)]
 pub(crate) enum Operator {
     And,
     Xor,
@@ -60,7 +61,13 @@ fn binds(frame: &Frame, level: u8) -> bool
 fn combined(alloc: Global, operator: Operator, left: Expr, right: Expr) -> Result<Expr, AllocError>
     ensures { IfOk result (λ e. e ≡ combined operator left right) }
 {
-    let left = Boxed::new(alloc, left)?;
+    let left = match Boxed::new(alloc, left) {
+        Ok(left) => left,
+        Err(fault) => {
+            let_go(right);
+            return Err(fault);
+        }
+    };
     let right = Boxed::new(alloc, right)?;
     Ok(match operator {
         Operator::And => Expr::And(left, right),
@@ -106,6 +113,14 @@ impl Machine {
         std::mem::replace(&mut self.last, Expr::Signal(0))
     }
 
+    // The operand that was read last becomes this one.
+    fn put_last(&mut self, last: Expr)
+        ensures last { self.new.last ≡ last }
+        ensures frames { frames_of self.new ≡ frames_of self.old }
+    {
+        let_go(std::mem::replace(&mut self.last, last));
+    }
+
     // The last operand becomes the right one of what is before it.
     fn take_in(&mut self, alloc: Global, frame: Frame) -> Result<(), AllocError>
         ensures { OnOk result (machine_of self.new ≡ machine (frames_of self.old) (taken_in frame self.old.last)) }
@@ -113,7 +128,8 @@ impl Machine {
         match frame {
             Frame::Left(operator, left) => {
                 let right = self.take_last();
-                self.last = combined(alloc, operator, left, right)?;
+                let whole = combined(alloc, operator, left, right)?;
+                self.put_last(whole);
                 Ok(())
             }
             Frame::Inverted | Frame::Opened => Ok(()),
@@ -136,15 +152,16 @@ impl Machine {
     {
         match self.pop() {
             Some(Frame::Inverted) => {
-                self.last = Expr::Not(Boxed::new(alloc, operand)?);
+                let operand = Boxed::new(alloc, operand)?;
+                self.put_last(Expr::Not(operand));
                 Ok(())
             }
             Some(frame) => {
-                self.last = operand;
+                self.put_last(operand);
                 self.push(frame)
             }
             None => {
-                self.last = operand;
+                self.put_last(operand);
                 Ok(())
             }
         }

@@ -6,10 +6,11 @@ ghost use Rattle.vod_token.specs.Nesting.{slice_of};
 ghost use Rattle.vod_thin_syntax.specs.View.{mark_of, marks_of, marks_in, item_of, module_of};
 ghost use Rattle.vod_thin.specs.Signals.{has_text, is_register};
 ghost use Rattle.vod_thin.specs.Netlists.{number_of, signal_of, class_of, bit_of, input_of, initial_of, inputs_of, initials_of, driver_of, block_of, design_by};
-ghost use Rattle.vod_thin.specs.Machine.{step, run, start, read_expr};
+ghost use Rattle.vod_thin.specs.Machine.{ended, step, run, start, read_expr};
 ghost use Rattle.vod_thin.specs.MachineView.{machine_of};
 ghost use Rattle.vod_thin.specs.View.{input_at, initial_at};
 
+use crate::let_go;
 use crate::machine::Machine;
 use crate::names::{Kind, Names, Signals};
 use crate::text::Text;
@@ -76,14 +77,25 @@ impl<'a, 's> Builder<'a, 's> {
         Ok(())
     }
 
+    // All tokens of a right side come, and nothing behind them.
+    fn read(&self, machine: &mut Machine, tokens: &[Token]) -> Result<Expr, AllocError>
+        requires few { length self.now.signals.now ≤ 2 ^ 25 }
+        ensures { IfOk result (λ e. e ≡ ended (run self.now.signals.now (machine_of machine.old) (marks_of self.now.text.source.now tokens.now))) }
+    {
+        self.run(machine, tokens)?;
+        let whole = machine.ended(self.alloc)?;
+        Ok(whole)
+    }
+
     // The expression of a right side.
     fn expression(&self, value: Span) -> Result<Expr, AllocError>
         requires few { length self.now.signals.now ≤ 2 ^ 25 }
         ensures { IfOk result (λ e. e ≡ read_expr self.now.signals.now (marks_in self.now.text.source.now self.now.text.tokens.now value)) }
     {
         let mut machine = Machine::new(self.alloc);
-        self.run(&mut machine, self.text.range(value))?;
-        let whole = machine.ended(self.alloc)?;
+        let read = self.read(&mut machine, self.text.range(value));
+        let_go(machine);
+        let whole = read?;
         Ok(whole)
     }
 

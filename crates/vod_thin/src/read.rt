@@ -9,10 +9,10 @@ ghost use Rattle.vod_thin.specs.Machine.{read_expr};
 ghost use Rattle.vod_thin.specs.Netlists.{design_by};
 ghost use Rattle.vod_thin.specs.Thin.{IsThin, IsRefused};
 
-use crate::ThinFault;
 use crate::judge::{Judge, judge_names, sooner};
 use crate::netlist::Builder;
 use crate::text::Text;
+use crate::{ThinFault, let_go};
 use std::alloc::{AllocError, Global};
 use vod_design::thin::{Design, expr_by_operands};
 use vod_thin_syntax::{
@@ -40,6 +40,7 @@ pub fn read_thin(alloc: Global, source: &[u8], more: bool) -> Result<Design, Thi
     ensures refuses { (place : ℕ) → IsRefused source.now more place →
         MatchResult result (λ _. ⊥) (λ fault. (fault ≢ ThinFault.Memory) → fault ≡ ThinFault.At place) }
 {
+    // A source reads as one module at most, and is refused at one place.
     one_sentence();
     read(alloc, source, more)
 }
@@ -48,6 +49,7 @@ pub fn read_thin(alloc: Global, source: &[u8], more: bool) -> Result<Design, Thi
 pub fn one_design()
     ensures { (source : List ℕ) (d e : Netlist) → IsThin source d → IsThin source e → d ≡ e }
 {
+    // A source reads as one module at most, and is refused at one place.
     one_sentence();
 }
 
@@ -57,6 +59,7 @@ pub fn one_place()
     ensures refused { (source : List ℕ) (more : Bool) (place other : ℕ) →
         IsRefused source more place → IsRefused source more other → place ≡ other }
 {
+    // A source reads as one module at most, and is refused at one place.
     one_sentence();
 }
 
@@ -64,6 +67,7 @@ pub fn one_place()
 pub fn plain_names()
     ensures { (source : List ℕ) (d : Netlist) → length source ≤ 2 ^ 20 → IsThin source d → HasPlainNames d }
 {
+    // What an expression reads, by its operands; and a token's form and the names of a sentence, by which names are plain.
     expr_by_operands();
     one_token();
     names_are_identifiers();
@@ -73,6 +77,7 @@ pub fn plain_names()
 pub fn few_inputs()
     ensures { (source : List ℕ) (d : Netlist) → IsThin source d → length d.inputs ≤ 256 }
 {
+    // A sentence has at most 256 inputs.
     inputs_are_few();
 }
 
@@ -98,6 +103,7 @@ fn sentence_design(alloc: Global, source: &[u8], sentence: &Sentence) -> Result<
     ensures plain { IfOk result (λ d. HasPlainNames d) }
     ensures refused { IfErr result (IsFault source.now false) }
 {
+    // What an expression reads, by its operands; and a token's form and the names of a sentence, by which names are plain.
     expr_by_operands();
     one_token();
     names_are_identifiers();
@@ -107,9 +113,14 @@ fn sentence_design(alloc: Global, source: &[u8], sentence: &Sentence) -> Result<
     };
     let judged = judge_names(alloc, &text, &sentence.module)?;
     match sooner(sentence.limit, judged.fault) {
-        Some(place) => Err(ThinFault::At(place)),
+        Some(place) => {
+            let_go(judged);
+            Err(ThinFault::At(place))
+        }
         None => {
-            let design = build(alloc, text, &judged.names, &sentence.module)?;
+            let built = build(alloc, text, &judged.names, &sentence.module);
+            let_go(judged);
+            let design = built?;
             Ok(design)
         }
     }

@@ -36,7 +36,11 @@ impl<T: Drop> From<AllocFailed<T>> for SyntaxFault {
 impl fmt::Display for SyntaxFault {
     fn fmt<W: fmt::Write>(&self, f: &mut fmt::Formatter<W>) -> fmt::Result {
         match self {
-            SyntaxFault::At(place) => write!(f, "the source isn't of the thin form: byte {}", place),
+            SyntaxFault::At(place) => write!(
+                f,
+                "the source isn't of the thin form: byte {}",
+                place
+            ),
             SyntaxFault::Memory => f.write_str("there was no memory"),
         }
     }
