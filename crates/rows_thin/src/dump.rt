@@ -1,5 +1,5 @@
 //! Dumps and windows, and what their writer writes.
-ghost use Rattle.std.specs.Prelude.{◌≡◌, length};
+ghost use Rattle.std.specs.Prelude.{◌≡◌};
 ghost use Rattle.vod_design.specs.Names.{HasPlainNames};
 
 use rows_text::{Page, number_at};
