@@ -1,61 +1,60 @@
 //! Expressions: each node in parentheses, with its operator or kind, its place and its parts.
-use crate::page::{close, open, show_ident, show_number};
-use std::alloc::AllocError;
+use crate::page::{open_at, show_ident, show_number};
+use rows_text::Page;
 use vod_tree::{BinaryOp, Expr, ExprKind, UnaryOp};
 
 /// An expression.
 #[cycle(expr)]
-pub fn show_expr(page: &mut String, expr: &Expr) -> Result<(), AllocError> {
+pub fn show_expr(page: &mut Page, expr: &Expr) {
     match &expr.kind {
         ExprKind::Number(number) => show_number(page, number),
         ExprKind::Name(ident) => show_ident(page, ident),
         compound => {
-            open(page, word_of(compound), expr.place)?;
-            show_parts(page, compound)?;
-            close(page)
+            open_at(page, word_of(compound), expr.place);
+            show_parts(page, compound);
+            page.close()
         }
     }
 }
 
 /// Expressions, one behind the other.
 #[cycle(expr)]
-pub fn show_exprs(page: &mut String, exprs: &[Expr]) -> Result<(), AllocError> {
+pub fn show_exprs(page: &mut Page, exprs: &[Expr]) {
     for expr in exprs {
-        show_expr(page, expr)?;
+        show_expr(page, expr);
     }
-    Ok(())
 }
 
 #[cycle(expr)]
-fn show_parts(page: &mut String, kind: &ExprKind) -> Result<(), AllocError> {
+fn show_parts(page: &mut Page, kind: &ExprKind) {
     match kind {
-        ExprKind::Number(_) | ExprKind::Name(_) => Ok(()),
+        ExprKind::Number(_) | ExprKind::Name(_) => {}
         ExprKind::Index(ident, index) => {
-            show_ident(page, ident)?;
+            show_ident(page, ident);
             show_expr(page, index.get())
         }
         ExprKind::Range(ident, first, second) => {
-            show_ident(page, ident)?;
-            show_expr(page, first.get())?;
+            show_ident(page, ident);
+            show_expr(page, first.get());
             show_expr(page, second.get())
         }
         ExprKind::Call(ident, arguments) => {
-            show_ident(page, ident)?;
+            show_ident(page, ident);
             show_exprs(page, arguments.as_slice())
         }
         ExprKind::Concat(parts) => show_exprs(page, parts.as_slice()),
         ExprKind::Replicate(count, parts) => {
-            show_expr(page, count.get())?;
+            show_expr(page, count.get());
             show_exprs(page, parts.as_slice())
         }
         ExprKind::Paren(operand) | ExprKind::Unary(_, operand) => show_expr(page, operand.get()),
         ExprKind::Binary(_, left, right) => {
-            show_expr(page, left.get())?;
+            show_expr(page, left.get());
             show_expr(page, right.get())
         }
         ExprKind::Conditional(test, taken, other) => {
-            show_expr(page, test.get())?;
-            show_expr(page, taken.get())?;
+            show_expr(page, test.get());
+            show_expr(page, taken.get());
             show_expr(page, other.get())
         }
     }

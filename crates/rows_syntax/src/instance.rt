@@ -1,19 +1,18 @@
 //! Gates and instances of modules.
 use crate::expression::{show_expr, show_exprs};
-use crate::page::{close, open, open_list, show_ident, show_word};
-use std::alloc::AllocError;
+use crate::page::{open_at, show_ident};
+use rows_text::Page;
 use vod_tree::{
     Arguments, Connections, Gate, GateKind, GateTerminals, Instance, Instances, NamedArgument,
     NamedConnection,
 };
 
 /// The kind of gates, and each with its name, where it has one, and its terminals.
-pub fn show_gate(page: &mut String, gate: &Gate) -> Result<(), AllocError> {
-    show_word(page, gate_word(gate.kind))?;
+pub fn show_gate(page: &mut Page, gate: &Gate) {
+    page.word(gate_word(gate.kind));
     for one in gate.gates.as_slice() {
-        show_terminals(page, one)?;
+        show_terminals(page, one);
     }
-    Ok(())
 }
 
 fn gate_word(kind: GateKind) -> &'static str {
@@ -29,66 +28,63 @@ fn gate_word(kind: GateKind) -> &'static str {
     }
 }
 
-fn show_terminals(page: &mut String, gate: &GateTerminals) -> Result<(), AllocError> {
-    open(page, "terminals", gate.place)?;
+fn show_terminals(page: &mut Page, gate: &GateTerminals) {
+    open_at(page, "terminals", gate.place);
     if let Some(ident) = &gate.name {
-        show_word(page, ":")?;
-        show_ident(page, ident)?;
+        page.word(":");
+        show_ident(page, ident);
     }
-    show_exprs(page, gate.terminals.as_slice())?;
-    close(page)
+    show_exprs(page, gate.terminals.as_slice());
+    page.close()
 }
 
 /// The module of instances, their parameters, where they have some, and each instance.
-pub fn show_instances(page: &mut String, instances: &Instances) -> Result<(), AllocError> {
-    show_ident(page, &instances.module)?;
+pub fn show_instances(page: &mut Page, instances: &Instances) {
+    show_ident(page, &instances.module);
     if let Some(arguments) = &instances.arguments {
-        show_arguments(page, arguments)?;
+        show_arguments(page, arguments);
     }
     for instance in instances.instances.as_slice() {
-        show_instance(page, instance)?;
+        show_instance(page, instance);
     }
-    Ok(())
 }
 
-fn show_arguments(page: &mut String, arguments: &Arguments) -> Result<(), AllocError> {
-    open_list(page, "arguments")?;
+fn show_arguments(page: &mut Page, arguments: &Arguments) {
+    page.open("arguments");
     match arguments {
-        Arguments::Ordered(exprs) => show_exprs(page, exprs.as_slice())?,
-        Arguments::Named(named) => show_named_arguments(page, named.as_slice())?,
+        Arguments::Ordered(exprs) => show_exprs(page, exprs.as_slice()),
+        Arguments::Named(named) => show_named_arguments(page, named.as_slice()),
     }
-    close(page)
+    page.close()
 }
 
-fn show_named_arguments(page: &mut String, named: &[NamedArgument]) -> Result<(), AllocError> {
+fn show_named_arguments(page: &mut Page, named: &[NamedArgument]) {
     for one in named {
-        open(page, "", one.place)?;
-        show_ident(page, &one.name)?;
-        show_expr(page, &one.value)?;
-        close(page)?;
+        open_at(page, "", one.place);
+        show_ident(page, &one.name);
+        show_expr(page, &one.value);
+        page.close();
     }
-    Ok(())
 }
 
-fn show_instance(page: &mut String, instance: &Instance) -> Result<(), AllocError> {
-    open_list(page, "instance")?;
-    show_ident(page, &instance.name)?;
+fn show_instance(page: &mut Page, instance: &Instance) {
+    page.open("instance");
+    show_ident(page, &instance.name);
     match &instance.connections {
-        Connections::Empty => show_word(page, "empty")?,
-        Connections::Ordered(exprs) => show_exprs(page, exprs.as_slice())?,
-        Connections::Named(named) => show_connections(page, named.as_slice())?,
+        Connections::Empty => page.word("empty"),
+        Connections::Ordered(exprs) => show_exprs(page, exprs.as_slice()),
+        Connections::Named(named) => show_connections(page, named.as_slice()),
     }
-    close(page)
+    page.close()
 }
 
-fn show_connections(page: &mut String, named: &[NamedConnection]) -> Result<(), AllocError> {
+fn show_connections(page: &mut Page, named: &[NamedConnection]) {
     for one in named {
-        open(page, "", one.place)?;
-        show_ident(page, &one.name)?;
+        open_at(page, "", one.place);
+        show_ident(page, &one.name);
         if let Some(expr) = &one.value {
-            show_expr(page, expr)?;
+            show_expr(page, expr);
         }
-        close(page)?;
+        page.close();
     }
-    Ok(())
 }

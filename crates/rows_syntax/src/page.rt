@@ -1,54 +1,43 @@
-//! The parts of a printed answer. Each part begins with a space.
-use std::alloc::AllocError;
-use std::fmt::Write;
+//! Parts of a tree that stand in many others. Each begins with a space.
+use rows_text::Page;
 use vod_tree::{Ident, Number};
 
-/// A word behind what was printed.
-pub fn show_word(page: &mut String, word: &str) -> Result<(), AllocError> {
-    write!(page, " {word}")
-}
-
 /// A word that is printed where it stands in the source.
-pub fn show_flag(page: &mut String, stands: bool, word: &str) -> Result<(), AllocError> {
+pub fn show_flag(page: &mut Page, stands: bool, word: &str) {
     if stands {
-        show_word(page, word)
-    } else {
-        Ok(())
+        page.word(word);
     }
 }
 
 /// The opening of a node, with its kind and its place.
-pub fn open(page: &mut String, word: &str, place: u32) -> Result<(), AllocError> {
-    write!(page, " ({word}.{place}")
+pub fn open_at(page: &mut Page, word: &str, place: u32) {
+    page.open(word);
+    show_place(page, place);
 }
 
-/// The opening of a node that has no place of its own.
-pub fn open_list(page: &mut String, word: &str) -> Result<(), AllocError> {
-    write!(page, " ({word}")
-}
-
-pub fn close(page: &mut String) -> Result<(), AllocError> {
-    page.push_str(")")
+fn show_place(page: &mut Page, place: u32) {
+    page.put(".");
+    page.put_shown(&place);
 }
 
 /// A name and its place.
-pub fn show_ident(page: &mut String, ident: &Ident) -> Result<(), AllocError> {
-    let name = std::str::from_utf8(ident.name.as_slice()).unwrap_or("?");
-    let place = ident.place;
-    write!(page, " {name}.{place}")
+pub fn show_ident(page: &mut Page, ident: &Ident) {
+    page.put(" ");
+    page.put_bytes(ident.name.as_slice());
+    show_place(page, ident.place);
 }
 
 /// Names and their places.
-pub fn show_idents(page: &mut String, idents: &[Ident]) -> Result<(), AllocError> {
+pub fn show_idents(page: &mut Page, idents: &[Ident]) {
     for ident in idents {
-        show_ident(page, ident)?;
+        show_ident(page, ident);
     }
-    Ok(())
 }
 
 /// A number as its size, `'`, `s` where it is signed, its value and its place.
-pub fn show_number(page: &mut String, number: &Number) -> Result<(), AllocError> {
-    let sign = if number.signed { "s" } else { "" };
-    let (size, value, place) = (number.size, number.value, number.place);
-    write!(page, " {size}'{sign}{value}.{place}")
+pub fn show_number(page: &mut Page, number: &Number) {
+    page.shown(&number.size);
+    page.put(if number.signed { "'s" } else { "'" });
+    page.put_shown(&number.value);
+    show_place(page, number.place);
 }

@@ -5,12 +5,12 @@ ghost use Rattle.vod_token.specs.Span.{IsTokenOf};
 use crate::expression::show_expr;
 use crate::lexis::{show_literal, show_tokens};
 use crate::tree::show_tree;
-use rows_text::{number_at, unescaped};
+use rows_text::{Page, number_at, unescaped};
 use std::alloc::{AllocError, Global};
-use std::fmt::Write;
 use vod_expr::{ParseFault, read_expr};
 use vod_parse::read_source;
 use vod_token::{Token, tokens};
+use vod_tree::{Expr, Tree};
 
 /// The most bytes of a source.
 const MOST_BYTES: usize = 1_048_576;
@@ -43,37 +43,34 @@ fn operation_of(word: &str) -> Option<Operation> {
 
 /// A row with its answer; a comment and an empty row as they are.
 pub fn answered(alloc: Global, row: &str) -> Result<String, AllocError> {
-    let mut page = String::from_str(alloc, row)?;
+    let text = String::from_str(alloc, row)?;
     if row.is_empty() || row.starts_with('#') {
-        return Ok(page);
+        return Ok(text);
     }
-    page.push_str(" ->")?;
+    let mut page = Page::new(text);
+    page.put(" ->");
     answer(alloc, &mut page, row)?;
-    Ok(page)
+    page.finish()
 }
 
-fn answer(alloc: Global, page: &mut String, row: &str) -> Result<(), AllocError> {
+fn answer(alloc: Global, page: &mut Page, row: &str) -> Result<(), AllocError> {
     let (word, text) = row.split_once(' ').unwrap_or((row, ""));
     let Some(operation) = operation_of(word) else {
-        return page.push_str(" unknown row");
+        page.word("unknown row");
+        return Ok(());
     };
     let (from, text) = match operation {
         Operation::From => number_at(text.as_bytes()),
         _ => (0, text.as_bytes()),
     };
     let source = unescaped(alloc, text)?;
-    show_answer(alloc, page, operation, from, source.as_slice())
+    show_answer(alloc, page, operation, from, source.as_slice());
+    Ok(())
 }
 
-fn show_answer(
-    alloc: Global,
-    page: &mut String,
-    operation: Operation,
-    from: u64,
-    source: &[u8],
-) -> Result<(), AllocError> {
+fn show_answer(alloc: Global, page: &mut Page, operation: Operation, from: u64, source: &[u8]) {
     if source.len() > MOST_BYTES {
-        return page.push_str(" longer than 1,048,576 bytes");
+        return page.word("longer than 1,048,576 bytes");
     }
     match operation {
         Operation::Tokens => show_tokens(alloc, page, source),
@@ -83,60 +80,58 @@ fn show_answer(
     }
 }
 
-/// The expression that is read from a token on, and how many tokens stand before the next one.
-fn show_expression(
-    alloc: Global,
-    page: &mut String,
-    source: &[u8],
-    from: u64,
-) -> Result<(), AllocError>
+/// The expression that is read from a token on.
+fn show_expression(alloc: Global, page: &mut Page, source: &[u8], from: u64)
     requires { length source.now ≤ 1048576 }
 {
     match tokens(alloc, source) {
         Ok(tokens) => show_run(alloc, page, source, tokens.as_slice(), from),
-        Err(fault) => write!(page, " {fault}"),
+        Err(fault) => page.shown(&fault),
     }
 }
 
-fn show_run(
-    alloc: Global,
-    page: &mut String,
-    source: &[u8],
-    tokens: &[Token],
-    from: u64,
-) -> Result<(), AllocError>
+fn show_run(alloc: Global, page: &mut Page, source: &[u8], tokens: &[Token], from: u64)
     requires { All (IsTokenOf source.now) tokens.now }
 {
     if from > tokens.len() as u64 {
-        return page.push_str(" no such token");
+        return page.word("no such token");
     }
-    match &read_expr(alloc, source, tokens, from as usize) {
+    show_read(page, &read_expr(alloc, source, tokens, from as usize));
+}
+
+/// An expression, and how many tokens stand before the one behind it.
+fn show_read(page: &mut Page, read: &Result<(Expr, usize), ParseFault>) {
+    match read {
         Ok((expr, end)) => {
-            show_expr(page, expr)?;
-            write!(page, " {end}")
+            show_expr(page, expr);
+            page.shown(end);
         }
         Err(fault) => show_fault(page, *fault),
     }
 }
 
 /// The tree of a whole source.
-fn show_source(alloc: Global, page: &mut String, source: &[u8]) -> Result<(), AllocError>
+fn show_source(alloc: Global, page: &mut Page, source: &[u8])
     requires { length source.now ≤ 1048576 }
 {
     match tokens(alloc, source) {
-        Ok(tokens) => match &read_source(alloc, source, tokens.as_slice()) {
-            Ok(tree) => show_tree(page, tree),
-            Err(fault) => show_fault(page, *fault),
-        },
-        Err(fault) => write!(page, " {fault}"),
+        Ok(tokens) => show_parsed(page, &read_source(alloc, source, tokens.as_slice())),
+        Err(fault) => page.shown(&fault),
     }
 }
 
-fn show_fault(page: &mut String, fault: ParseFault) -> Result<(), AllocError> {
+fn show_parsed(page: &mut Page, parsed: &Result<Tree, ParseFault>) {
+    match parsed {
+        Ok(tree) => show_tree(page, tree),
+        Err(fault) => show_fault(page, *fault),
+    }
+}
+
+fn show_fault(page: &mut Page, fault: ParseFault) {
     match fault {
-        ParseFault::At(place) => write!(page, " At {place}"),
-        ParseFault::End => page.push_str(" End"),
-        ParseFault::Statement(place) => write!(page, " Statement {place}"),
-        ParseFault::Memory => page.push_str(" Memory"),
+        ParseFault::At(place) => page.placed("At", u64::from(place)),
+        ParseFault::End => page.word("End"),
+        ParseFault::Statement(place) => page.placed("Statement", u64::from(place)),
+        ParseFault::Memory => page.word("Memory"),
     }
 }

@@ -4,10 +4,9 @@ use crate::declaration::{
     show_variables,
 };
 use crate::instance::{show_gate, show_instances};
-use crate::page::{close, open, open_list, show_flag, show_ident, show_idents, show_word};
+use crate::page::{open_at, show_flag, show_ident, show_idents};
 use crate::statement::{show_always, show_assignments, show_initial, show_statement};
-use std::alloc::AllocError;
-use std::fmt::Write;
+use rows_text::Page;
 use vod_tree::{
     Directive, DirectiveKind, Function, FunctionDeclaration, FunctionInput, FunctionPort,
     FunctionVariables, Item, ItemKind, Module, NetType, SourceItem, Time, TimeCount, TimeUnit,
@@ -15,30 +14,30 @@ use vod_tree::{
 };
 
 /// The directives and modules of a source.
-pub fn show_tree(page: &mut String, tree: &Tree) -> Result<(), AllocError> {
-    open_list(page, "source")?;
+pub fn show_tree(page: &mut Page, tree: &Tree) {
+    page.open("source");
     for item in tree.items.as_slice() {
         match item {
-            SourceItem::Directive(directive) => show_directive(page, directive)?,
-            SourceItem::Module(module) => show_module(page, module)?,
+            SourceItem::Directive(directive) => show_directive(page, directive),
+            SourceItem::Module(module) => show_module(page, module),
         }
     }
-    close(page)
+    page.close()
 }
 
-fn show_directive(page: &mut String, directive: &Directive) -> Result<(), AllocError> {
+fn show_directive(page: &mut Page, directive: &Directive) {
     match directive.kind {
         DirectiveKind::Timescale(unit, precision) => {
-            open(page, "timescale", directive.place)?;
-            show_time(page, unit)?;
-            show_time(page, precision)?;
+            open_at(page, "timescale", directive.place);
+            show_time(page, unit);
+            show_time(page, precision);
         }
         DirectiveKind::DefaultNettype(kind) => {
-            open(page, "default_nettype", directive.place)?;
-            show_word(page, nettype_word(kind))?;
+            open_at(page, "default_nettype", directive.place);
+            page.word(nettype_word(kind));
         }
     }
-    close(page)
+    page.close()
 }
 
 fn nettype_word(kind: NetType) -> &'static str {
@@ -48,9 +47,9 @@ fn nettype_word(kind: NetType) -> &'static str {
     }
 }
 
-fn show_time(page: &mut String, time: Time) -> Result<(), AllocError> {
-    let (count, unit) = (count_word(time.count), unit_word(time.unit));
-    write!(page, " {count}{unit}")
+fn show_time(page: &mut Page, time: Time) {
+    page.word(count_word(time.count));
+    page.put(unit_word(time.unit));
 }
 
 fn count_word(count: TimeCount) -> &'static str {
@@ -72,26 +71,25 @@ fn unit_word(unit: TimeUnit) -> &'static str {
     }
 }
 
-fn show_module(page: &mut String, module: &Module) -> Result<(), AllocError> {
-    open(page, "module", module.place)?;
-    show_ident(page, &module.name)?;
-    let tokens = module.tokens;
-    write!(page, " tokens={tokens}")?;
+fn show_module(page: &mut Page, module: &Module) {
+    open_at(page, "module", module.place);
+    show_ident(page, &module.name);
+    page.put(" tokens=");
+    page.put_shown(&module.tokens);
     if let Some(parameters) = &module.parameters {
-        show_parameter_ports(page, parameters.as_slice())?;
+        show_parameter_ports(page, parameters.as_slice());
     }
-    show_ports(page, &module.ports)?;
-    show_items(page, module.items.as_slice())?;
-    close(page)
+    show_ports(page, &module.ports);
+    show_items(page, module.items.as_slice());
+    page.close()
 }
 
-fn show_items(page: &mut String, items: &[Item]) -> Result<(), AllocError> {
+fn show_items(page: &mut Page, items: &[Item]) {
     for item in items {
-        open(page, item_word(&item.kind), item.place)?;
-        show_item(page, &item.kind)?;
-        close(page)?;
+        open_at(page, item_word(&item.kind), item.place);
+        show_item(page, &item.kind);
+        page.close();
     }
-    Ok(())
 }
 
 fn item_word(kind: &ItemKind) -> &'static str {
@@ -113,7 +111,7 @@ fn item_word(kind: &ItemKind) -> &'static str {
     }
 }
 
-fn show_item(page: &mut String, kind: &ItemKind) -> Result<(), AllocError> {
+fn show_item(page: &mut Page, kind: &ItemKind) {
     match kind {
         ItemKind::Input(nets) | ItemKind::Output(nets) => show_nets(page, nets),
         ItemKind::OutputReg(variables) | ItemKind::Wire(variables) => {
@@ -133,51 +131,47 @@ fn show_item(page: &mut String, kind: &ItemKind) -> Result<(), AllocError> {
     }
 }
 
-fn show_function(page: &mut String, function: &Function) -> Result<(), AllocError> {
-    show_flag(page, function.automatic, "automatic")?;
-    show_type(page, function.signed, &function.range)?;
-    show_ident(page, &function.name)?;
+fn show_function(page: &mut Page, function: &Function) {
+    show_flag(page, function.automatic, "automatic");
+    show_type(page, function.signed, &function.range);
+    show_ident(page, &function.name);
     if let Some(inputs) = &function.inputs {
-        show_inputs(page, inputs.as_slice())?;
+        show_inputs(page, inputs.as_slice());
     }
-    show_declarations(page, function.declarations.as_slice())?;
+    show_declarations(page, function.declarations.as_slice());
     show_statement(page, &function.body)
 }
 
-fn show_inputs(page: &mut String, inputs: &[FunctionInput]) -> Result<(), AllocError> {
-    open_list(page, "inputs")?;
+fn show_inputs(page: &mut Page, inputs: &[FunctionInput]) {
+    page.open("inputs");
     for input in inputs {
         match input {
-            FunctionInput::Port(port) => show_port(page, port)?,
-            FunctionInput::Further(ident) => show_ident(page, ident)?,
+            FunctionInput::Port(port) => show_port(page, port),
+            FunctionInput::Further(ident) => show_ident(page, ident),
         }
     }
-    close(page)
+    page.close()
 }
 
-fn show_port(page: &mut String, port: &FunctionPort) -> Result<(), AllocError> {
-    open(page, "input", port.place)?;
-    show_type(page, port.signed, &port.range)?;
-    show_ident(page, &port.name)?;
-    close(page)
+fn show_port(page: &mut Page, port: &FunctionPort) {
+    open_at(page, "input", port.place);
+    show_type(page, port.signed, &port.range);
+    show_ident(page, &port.name);
+    page.close()
 }
 
-fn show_declarations(
-    page: &mut String,
-    declarations: &[FunctionDeclaration],
-) -> Result<(), AllocError> {
+fn show_declarations(page: &mut Page, declarations: &[FunctionDeclaration]) {
     for declaration in declarations {
         match declaration {
-            FunctionDeclaration::Input(names) => show_names(page, "input", names)?,
-            FunctionDeclaration::Reg(names) => show_names(page, "reg", names)?,
+            FunctionDeclaration::Input(names) => show_names(page, "input", names),
+            FunctionDeclaration::Reg(names) => show_names(page, "reg", names),
         }
     }
-    Ok(())
 }
 
-fn show_names(page: &mut String, word: &str, names: &FunctionVariables) -> Result<(), AllocError> {
-    open(page, word, names.place)?;
-    show_type(page, names.signed, &names.range)?;
-    show_idents(page, names.names.as_slice())?;
-    close(page)
+fn show_names(page: &mut Page, word: &str, names: &FunctionVariables) {
+    open_at(page, word, names.place);
+    show_type(page, names.signed, &names.range);
+    show_idents(page, names.names.as_slice());
+    page.close()
 }

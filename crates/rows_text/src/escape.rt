@@ -98,15 +98,3 @@ fn place_of(text: &[u8], byte: u8) -> usize
 fn without(text: &[u8], count: usize) -> &[u8] {
     &text[count.min(text.len())..]
 }
-
-/// Prints a text in one line, each line feed as `\n`.
-pub fn show_escaped(page: &mut String, bytes: &[u8]) -> Result<(), AllocError> {
-    let text = std::str::from_utf8(bytes).unwrap_or("?");
-    for (number, line) in text.split('\n').enumerate() {
-        if number > 0 {
-            page.push_str("\\n")?;
-        }
-        page.push_str(line)?;
-    }
-    Ok(())
-}

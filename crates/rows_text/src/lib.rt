@@ -2,5 +2,7 @@
 #![tactic(auto)]
 
 mod escape;
+mod page;
 
-pub use escape::{number_at, show_escaped, unescaped};
+pub use escape::{number_at, unescaped};
+pub use page::Page;
