@@ -138,8 +138,9 @@ impl Table {
         let mut script = MemSource::new(self.script.clone()?, script);
         let mut out = MemSink::new(alloc, MOST_TAKEN, out).map_err(|_| AllocError)?;
         let mut err = MemSink::new(alloc, MOST_TAKEN, err).map_err(|_| AllocError)?;
-        let mut deck = MemDeck::new(alloc, self.bytes.clone()?, ROOM, device, crash)
-            .map_err(|_| AllocError)?;
+        let mut deck = MemDeck::new(alloc, self.bytes.clone()?, ROOM, device, crash).map_err(
+            |_| AllocError,
+        )?;
         let status = vod(
             alloc,
             &texts,
@@ -185,8 +186,9 @@ fn outcome_of(alloc: Global, deck: &MemDeck, pick: u64) -> Result<String, AllocE
     let left = deck.outcome(alloc, pick).map_err(|_| AllocError)?;
     let mut page = "said ".to_string(alloc)?;
     show_escaped(&mut page, left.said.as_slice())?;
-    let mut after = MemDeck::new(alloc, left.bytes, ROOM, Vec::new(alloc), None)
-        .map_err(|_| AllocError)?;
+    let mut after = MemDeck::new(alloc, left.bytes, ROOM, Vec::new(alloc), None).map_err(
+        |_| AllocError,
+    )?;
     match Log::open(alloc, &mut after) {
         Ok(log) => page.push_str(format!(in alloc; "; holds {}", log.counts().vectors)?.as_str())?,
         Err(_) => page.push_str("; no log")?,

@@ -5,9 +5,9 @@ ghost use Rattle.vod_program.specs.Answer.{Inputs, Output, inputs_of, output_of,
 ghost use Rattle.vod_program.specs.Quiet.{Writes};
 ghost use Rattle.vod_program.specs.declared.status.Part.TheVariants as part;
 
-use crate::phase::{reading_of, vectors_of};
-use crate::status::{Part, Fault};
 use crate::faults::window_fault;
+use crate::phase::{reading_of, vectors_of};
+use crate::status::{Fault, Part};
 use std::alloc::Global;
 use vod_io::{Sink, Source};
 use vod_thin_window::write_dump;

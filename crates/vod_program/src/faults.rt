@@ -2,7 +2,7 @@
 ghost use Rattle.std.specs.Prelude.{◌≡◌};
 ghost use Rattle.vod_program.specs.Phases.{window_fault, replay_fault, store_fault, log_fault, append_fault};
 
-use crate::status::{Part, Fault};
+use crate::status::{Fault, Part};
 use vod_log::LogFault;
 use vod_thin_replay::ReplayFault;
 use vod_thin_store::StoreFault;

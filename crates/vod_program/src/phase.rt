@@ -10,7 +10,7 @@ ghost use Rattle.vod_program.specs.Sources.{IsSource, IsRefusedSource, IsOtherSo
 ghost use Rattle.vod_program.specs.Phases.{fault_within, Fails};
 ghost use Rattle.vod_program.specs.declared.status.Part.TheVariants as part;
 
-use crate::status::{Part, Fault};
+use crate::status::{Fault, Part};
 use std::alloc::Global;
 use vod_design::thin::Design;
 use vod_io::{FillFault, Filled, Source, fill};

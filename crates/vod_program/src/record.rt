@@ -7,9 +7,9 @@ ghost use Rattle.vod_log.specs.Tail.{IsSettled, Opens};
 ghost use Rattle.vod_program.specs.Answer.{Inputs, Device, inputs_of, device_of, RecordAnswers, IsLeft};
 ghost use Rattle.vod_program.specs.declared.status.Part.TheVariants as part;
 
-use crate::phase::{reading_of, recordable_of};
-use crate::status::{Part, Fault};
 use crate::faults::{append_fault, store_fault};
+use crate::phase::{reading_of, recordable_of};
+use crate::status::{Fault, Part};
 use std::alloc::Global;
 use vod_deck::Deck;
 use vod_io::{Failed, Source};

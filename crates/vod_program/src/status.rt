@@ -158,7 +158,8 @@ fn number_of(fault: Fault) -> Option<u64>
         | Fault::Range(RangeFault::TooEarly(number) | RangeFault::PastEnd(number))
         | Fault::NotALog(number)
         | Fault::Damaged(number) => Some(number),
-        Fault::Usage | Fault::Range(_) | Fault::Deck | Fault::Read | Fault::Write | Fault::Memory => None,
+        Fault::Usage | Fault::Range(_) | Fault::Deck | Fault::Read | Fault::Write | Fault::Memory =>
+            None,
     }
 }
 

@@ -15,7 +15,7 @@ ghost use Rattle.vod_program.specs.declared.status.Part.TheVariants as part;
 use crate::command::{Command, command_of};
 use crate::dump::dump;
 use crate::record::record;
-use crate::status::{Status, Fault, report};
+use crate::status::{Fault, Status, report};
 use crate::window::window;
 use std::alloc::Global;
 use vod_deck::Deck;
@@ -39,7 +39,7 @@ fn answer<D: Source, S: Source, L: Deck, K: Sink>(
         (inputs_of (D.left design.old) (S.left input.old) (D.faults design.old) (D.faults design.new) (S.faults input.old) (S.faults input.new))
         (output_of (K.taken out.old) (K.taken out.new) (K.faults out.old) (K.faults out.new))
         (device_of L.tells (L.view deck.old) (L.view deck.new))
-    in Answers world result }
+        in Answers world result }
     ensures quiet { (Writes result → ⊥) → out.new ≡ out.old }
     ensures no_inputs { ((command : Command) → IsCommand (map string_bytes words.now) command → ReadsInputs command → ⊥) → (design.new ≡ design.old) × (input.new ≡ input.old) }
     ensures no_deck { ((command : Command) → IsCommand (map string_bytes words.now) command → UsesDeck command → ⊥) → deck.new ≡ deck.old }
@@ -51,7 +51,7 @@ fn answer<D: Source, S: Source, L: Deck, K: Sink>(
         (inputs_of (D.left design.old) (S.left input.old) (D.faults design.old) (D.faults design.new) (S.faults input.old) (S.faults input.new))
         (output_of (K.taken out.old) (K.taken out.new) (K.faults out.old) (K.faults out.new))
         (device_of L.tells (L.view deck.old) (L.view deck.new))
-    in L.tells → Leaves world.device.before world.device.after (From world.device.before.may_leave (IsLeft world.inputs world.device)) }
+        in L.tells → Leaves world.device.before world.device.after (From world.device.before.may_leave (IsLeft world.inputs world.device)) }
     ensures design_counted { D.faults design.old ≤ D.faults design.new }
     ensures input_counted { S.faults input.old ≤ S.faults input.new }
     ensures deck_counted { (L.view deck.old).faults ≤ (L.view deck.new).faults }
@@ -86,7 +86,7 @@ pub fn vod<D: Source, S: Source, L: Deck, K: Sink, E: Sink>(
         (inputs_of (D.left design.old) (S.left input.old) (D.faults design.old) (D.faults design.new) (S.faults input.old) (S.faults input.new))
         (output_of (K.taken out.old) (K.taken out.new) (K.faults out.old) (K.faults out.new))
         (device_of L.tells (L.view deck.old) (L.view deck.new))
-    in IsAnswered world (record { before = E.faults err.old; after = E.faults err.new }) result }
+        in IsAnswered world (record { before = E.faults err.old; after = E.faults err.new }) result }
 
     // What the streams took besides.
     ensures said { IsSaid result (E.taken err.old) (E.taken err.new) }
@@ -106,14 +106,14 @@ pub fn vod<D: Source, S: Source, L: Deck, K: Sink, E: Sink>(
         (inputs_of (D.left design.old) (S.left input.old) (D.faults design.old) (D.faults design.new) (S.faults input.old) (S.faults input.new))
         (output_of (K.taken out.old) (K.taken out.new) (K.faults out.old) (K.faults out.new))
         (device_of L.tells (L.view deck.old) (L.view deck.new))
-    in L.tells → Leaves world.device.before world.device.after (From world.device.before.may_leave (IsLeft world.inputs world.device)) }
+        in L.tells → Leaves world.device.before world.device.after (From world.device.before.may_leave (IsLeft world.inputs world.device)) }
 
     // What the log's file reads as afterwards is what such a crash may have left.
     ensures reads { let world : World = world_of (map string_bytes words.now)
         (inputs_of (D.left design.old) (S.left input.old) (D.faults design.old) (D.faults design.new) (S.faults input.old) (S.faults input.new))
         (output_of (K.taken out.old) (K.taken out.new) (K.faults out.old) (K.faults out.new))
         (device_of L.tells (L.view deck.old) (L.view deck.new))
-    in L.tells → Reads world.inputs world.device }
+        in L.tells → Reads world.inputs world.device }
 
     // What is acknowledged is held, where it was so at entry.
     ensures acknowledged { L.tells → KeepsAcknowledged (device_of L.tells (L.view deck.old) (L.view deck.new)) }

@@ -7,9 +7,9 @@ ghost use Rattle.vod_thin_replay.specs.Replay.{IsOpened};
 ghost use Rattle.vod_program.specs.Answer.{Output, Device, output_of, device_of, IsInside, WindowAnswers};
 ghost use Rattle.vod_program.specs.Quiet.{Writes};
 
-use crate::phase::held_design;
-use crate::status::{Part, Fault};
 use crate::faults::{log_fault, replay_fault, window_fault};
+use crate::phase::held_design;
+use crate::status::{Fault, Part};
 use std::alloc::Global;
 use vod_deck::Deck;
 use vod_io::Sink;
