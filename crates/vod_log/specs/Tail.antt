@@ -1,6 +1,6 @@
 -- The end of a log, and one more record behind it.
 use Rattle.std.specs.Prelude.{◌≡◌, ℕ, ◌+◌, ◌*◌, ◌^◌, ◌≤◌, ◌<◌, ◌⊎◌, ◌==◌, Bool, true, if◌then◌else◌, List, [], ◌∷◌, ◌++◌, length, take, slice_index, Option, None, Some}
-use Rattle.vod_deck.specs.Outcomes.{Outcome, View, Only, SameOutcomes}
+use Rattle.vod_deck.specs.Outcomes.{Outcome, View, Holds, Only, SameOutcomes}
 use Rattle.vod_log.specs.declared.header.Kind.TheVariants.{Image}
 use Rattle.vod_log.specs.Format.{Reading, same_kind, begins_header, fields_of, follows, entry_of, committed}
 use Rattle.vod_log.specs.declared.header.Header.{Header}
@@ -68,3 +68,7 @@ pub record TailView : Type 0 where
   pub gate : ℕ
   pub last : Option Header
   pub broken : Bool
+
+-- the bytes of a log after an append: the frame stands behind the gate where the log ended, and that gate is opened with 1
+abbrev pub IsAppended : List ℕ → ℕ → List ℕ → List ℕ → Type 0
+IsAppended old gate frame new = (written : List ℕ) × Holds old (gate + 1) frame written × Holds written gate (1 ∷ []) new

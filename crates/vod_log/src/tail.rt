@@ -3,7 +3,7 @@ ghost use Rattle.vod_io.specs.Faults.{Rose, HasCause};
 ghost use Rattle.vod_deck.specs.Outcomes.{View, Holds, Torn, Writes, From, Only, Elapses, Leaves};
 ghost use Rattle.vod_log.specs.Format.{committed, fields_of};
 ghost use Rattle.vod_log.specs.Opened.{ArePlaced, records_of};
-ghost use Rattle.vod_log.specs.Tail.{Continues, IsNear, IsSettled, HoldsEither, appended, frame_header};
+ghost use Rattle.vod_log.specs.Tail.{Continues, IsNear, IsSettled, HoldsEither, IsAppended, appended, frame_header};
 ghost use Rattle.vod_log.specs.declared.tail.AppendFault.TheVariants.{Deck as DeckFault, Broken};
 
 use crate::Header;
@@ -154,6 +154,7 @@ impl Tail {
         requires goes_on { Continues self.old.last frame.now }
         requires settled { L.tells → self.old.broken ≡ false → IsSettled (L.view deck.old) self.old.gate self.old.last }
         ensures held { OnOk result (L.tells → committed (L.view deck.new).bytes ≡ appended (committed (L.view deck.old).bytes) self.old.gate frame.now) }
+        ensures bytes { OnOk result (L.tells → IsAppended (L.view deck.old).bytes self.old.gate frame.now (L.view deck.new).bytes) }
         ensures settled { OnOk result (L.tells → IsSettled (L.view deck.new) self.new.gate self.new.last) }
         ensures placed { OnOk result (L.tells → ArePlaced (L.view deck.new).bytes (records_of (committed (L.view deck.new).bytes).entries)) }
         ensures tail { OnOk result (self.new ≡ record { gate = self.old.gate + length frame.now; last = Some (frame_header frame.now); broken = false }) }

@@ -7,14 +7,14 @@ use Rattle.vod_thin_script.specs.Script as script
 use Rattle.vod_thin_code.specs.Held.{IsHeld, IsSound}
 use Rattle.vod_thin_replay.specs.Range.{range_of}
 use Rattle.vod_thin_replay.specs.declared.held.RangeFault as range
-use Rattle.vod_thin_replay.specs.Replay.{HoldsSource, IsHeadDamagedAt, IsDamagedAt}
+use Rattle.vod_thin_replay.specs.Replay.{HoldsSource, IsReadUpTo, IsHeadDamagedAt, IsDamagedAt, IsDamagedUpTo}
 use Rattle.vod_thin_window.specs.declared.window.Window as span
 use Rattle.vod_thin_window.specs.Request.{Request}
 use Rattle.vod_program.specs.Sources.{IsSource, IsRefusedSource, IsOtherSource, IsUnrecordable}
-use Rattle.vod_program.specs.Answer.{Count, IsRisen, Inputs, Output, Device, World, IsDeckRisen, HasNoCommand, HasDesign, Asks, IsFresh, IsPlain, IsInside, HasImage, HoldsThin, HoldsOther, IsDamaged, DumpAnswers, RecordAnswers, WindowAnswers, CommandAnswers, Answers}
+use Rattle.vod_program.specs.Answer.{Count, IsRisen, Inputs, Output, Device, World, IsDeckRisen, HasNoCommand, HasDesign, Asks, IsFresh, IsPlain, IsInside, HasImage, HoldsThin, HoldsOther, IsDamaged, HoldsUpTo, DumpAnswers, RecordAnswers, WindowAnswers, CommandAnswers, Answers}
 use Rattle.vod_io.specs.Told.{appended, Puts}
 use Rattle.vod_program.specs.Ends.{line_of, status_of, Reports}
-use Rattle.vod_program.specs.Caused.{status_for, IsReported, IsCaused, IsCalm, ToldDesign, DumpStands, RecordStands, WindowStands, Stands, IsComplete, IsAnswered, status_line, IsSaid, MayWrite}
+use Rattle.vod_program.specs.Caused.{status_for, IsReported, IsCaused, IsCalm, ToldDesign, DumpStands, RecordStands, WindowStands, IsFirstDamaged, Stands, IsComplete, IsAnswered, status_line, IsSaid, MayWrite}
 use Rattle.vod_program.specs.Command.{IsCommand}
 use Rattle.vod_program.specs.Quiet.{Writes}
 use Rattle.std.proofs.lemmas.List.{append-nil}
@@ -79,6 +79,9 @@ no_record_read w err calm (inr other) = calm.input other.2
 pub record Held : Type 0 where
   pub laws : Laws
   pub undamaged : (d : Netlist) → IsAccepted d → (source : List ℕ) (interval : ℕ) (vs : List Vector) (bytes : List ℕ) (at : ℕ) → IsSound d source interval vs bytes → IsDamagedAt d bytes at → ⊥
+  pub apart : (d : Netlist) → IsAccepted d → (bytes : List ℕ) (to : ℕ) (vs : List Vector) (at : ℕ) → IsReadUpTo d bytes to vs → IsDamagedUpTo d bytes to at → ⊥
+  pub place : (d : Netlist) → IsAccepted d → (bytes : List ℕ) (to at other : ℕ) → IsDamagedUpTo d bytes to at → IsDamagedUpTo d bytes to other → at ≡ other
+  pub head : (bytes : List ℕ) (at other : ℕ) → IsHeadDamagedAt bytes at → IsHeadDamagedAt bytes other → at ≡ other
 
 same_some : {A : Type 0} {a b : A} → Some a ≡ Some b → a ≡ b
 same_some e = cc
@@ -110,13 +113,38 @@ sound_no_log one held bytes window at source d interval vs inside is sound (inr 
     let same = same_source held.laws bytes other.source source d interval vs other.has_source sound.held in
     other_apart one source d is (subst IsOtherSource same other.other)
 
-sound_undamaged : OneAnswer → Held → (bytes : List ℕ) (at : ℕ) (source : List ℕ) (d : Netlist) (interval : ℕ) (vs : List Vector) → IsSource source d → IsSound d source interval vs bytes → IsDamaged bytes at → ⊥
-sound_undamaged one held bytes at source d interval vs is sound (inl none) =
+sound_undamaged : OneAnswer → Held → (bytes : List ℕ) (to at : ℕ) (source : List ℕ) (d : Netlist) (interval : ℕ) (vs : List Vector) → IsSource source d → IsSound d source interval vs bytes → IsDamaged bytes to at → ⊥
+sound_undamaged one held bytes to at source d interval vs is sound (inl none) =
     some_source bytes source at (record { head = sound.held.head; batches = sound.held.batches; entries = sound.held.entries; interval = interval; is_head = sound.held.is_head }) none
-sound_undamaged one held bytes at source d interval vs is sound (inr (other, e, has, is_other, accepted, damaged)) =
+sound_undamaged one held bytes to at source d interval vs is sound (inr (other, e, has, is_other, accepted, damaged, first)) =
     let sources : other ≡ source = same_source held.laws bytes other source d interval vs has sound.held in
     let designs : e ≡ d = one.design source e d (subst (λ s. IsSource s e) sources is_other) is in
     held.undamaged d (subst IsAccepted designs accepted) source interval vs bytes at sound (subst (λ n. IsDamagedAt n bytes at) designs damaged)
+
+-- what is read up to a time isn't damaged up to it
+read_undamaged : OneAnswer → Held → (bytes : List ℕ) (to at : ℕ) (source : List ℕ) (d : Netlist) (vs : List Vector) → HoldsSource bytes source → IsSource source d → IsReadUpTo d bytes to vs → IsDamaged bytes to at → ⊥
+read_undamaged one held bytes to at source d vs has is read (inl none) = some_source bytes source at has none
+read_undamaged one held bytes to at source d vs has is read (inr (other, e, other_has, is_other, accepted, damaged, first)) =
+    let sources : other ≡ source = one_source held.laws bytes other source other_has has in
+    let designs : e ≡ d = one.design source e d (subst (λ s. IsSource s e) sources is_other) is in
+    held.apart d (subst IsAccepted designs accepted) bytes to vs at read (subst (λ n. IsDamagedUpTo n bytes to at) designs first)
+
+held_undamaged : OneAnswer → Held → (bytes : List ℕ) (to at : ℕ) (r : Request) → HoldsUpTo bytes to r → IsFirstDamaged bytes to at → ⊥
+held_undamaged one held bytes to at r holds (inl none) = some_source bytes r.source at holds.has_source none
+held_undamaged one held bytes to at r holds (inr (source, d, has, is, first)) =
+    let sources : source ≡ r.source = one_source held.laws bytes source r.source has holds.has_source in
+    let designs : d ≡ r.design = one.design r.source d r.design (subst (λ s. IsSource s d) sources is) holds.is_source in
+    held.apart r.design holds.accepted bytes to r.vectors at holds.read (subst (λ n. IsDamagedUpTo n bytes to at) designs first)
+
+-- a log is damaged at one gate
+one_damaged : OneAnswer → Held → (bytes : List ℕ) (to at wanted : ℕ) → IsDamaged bytes to at → IsFirstDamaged bytes to wanted → at ≡ wanted
+one_damaged one held bytes to at wanted (inl a) (inl b) = held.head bytes at wanted a b
+one_damaged one held bytes to at wanted (inl a) (inr (source, d, has, is, first)) = absurd (some_source bytes source at has a)
+one_damaged one held bytes to at wanted (inr (source, d, has, is, accepted, damaged, first)) (inl b) = absurd (some_source bytes source wanted has b)
+one_damaged one held bytes to at wanted (inr (source, d, has, is, accepted, damaged, first)) (inr (other, e, other_has, is_other, again)) =
+    let sources : other ≡ source = one_source held.laws bytes other source other_has has in
+    let designs : e ≡ d = one.design source e d (subst (λ s. IsSource s e) sources is_other) is in
+    held.place d accepted bytes to at wanted first (subst (λ n. IsDamagedUpTo n bytes to wanted) designs again)
 
 one_log_place : OneAnswer → Held → (bytes : List ℕ) (window : span.Window) (at wanted : ℕ) → IsNoLog bytes window at → IsNoLog bytes window wanted → at ≡ wanted
 one_log_place one held bytes window at wanted (inl image) (inl again) = same_some (sym image.image ∙ again.image)
@@ -132,14 +160,20 @@ log_framed : (bytes : List ℕ) (window : span.Window) (at : ℕ) → IsNoLog by
 log_framed bytes window at (inl image) = image.framed
 log_framed bytes window at (inr (inside, other, e)) = inside.plain.framed
 
-other_undamaged : OneAnswer → Held → (bytes : List ℕ) (at : ℕ) → HoldsOther bytes → IsDamaged bytes at → ⊥
-other_undamaged one held bytes at other (inl none) = some_source bytes other.source at other.has_source none
-other_undamaged one held bytes at other (inr (source, d, has, is, accepted, damaged)) =
+other_undamaged : OneAnswer → Held → (bytes : List ℕ) (to at : ℕ) → HoldsOther bytes → IsDamaged bytes to at → ⊥
+other_undamaged one held bytes to at other (inl none) = some_source bytes other.source at other.has_source none
+other_undamaged one held bytes to at other (inr (source, d, has, is, accepted, damaged, first)) =
     other_apart one source d is (subst IsOtherSource (one_source held.laws bytes other.source source other.has_source has) other.other)
 
-log_undamaged : OneAnswer → Held → (bytes : List ℕ) (window : span.Window) (wanted at : ℕ) → IsNoLog bytes window wanted → IsInside bytes window → IsDamaged bytes at → ⊥
+log_undamaged : OneAnswer → Held → (bytes : List ℕ) (window : span.Window) (wanted at : ℕ) → IsNoLog bytes window wanted → IsInside bytes window → IsDamaged bytes window.to at → ⊥
 log_undamaged one held bytes window wanted at (inl image) inside damaged = image_clash bytes wanted inside.plain image
-log_undamaged one held bytes window wanted at (inr (here, other, e)) inside damaged = other_undamaged one held bytes at other damaged
+log_undamaged one held bytes window wanted at (inr (here, other, e)) inside damaged = other_undamaged one held bytes window.to at other damaged
+
+log_not_damaged : OneAnswer → Held → (bytes : List ℕ) (window : span.Window) (at wanted : ℕ) → IsNoLog bytes window at → IsInside bytes window → IsFirstDamaged bytes window.to wanted → ⊥
+log_not_damaged one held bytes window at wanted (inl image) inside first = image_clash bytes at inside.plain image
+log_not_damaged one held bytes window at wanted (inr (here, other, e)) inside (inl none) = some_source bytes other.source wanted other.has_source none
+log_not_damaged one held bytes window at wanted (inr (here, other, e)) inside (inr (source, d, has, is, first)) =
+    other_apart one source d is (subst IsOtherSource (one_source held.laws bytes other.source source other.has_source has) other.other)
 
 log_not_ok : OneAnswer → Held → (bytes : List ℕ) (window : span.Window) (wanted : ℕ) → IsNoLog bytes window wanted → IsInside bytes window → HoldsThin bytes → ⊥
 log_not_ok one held bytes window wanted (inl image) inside thin = image_clash bytes wanted inside.plain image
@@ -249,10 +283,12 @@ window_ok one held w err calm window (Ok done) h s = inl refl
 window_ok one held w err calm window (Err failed.Usage) h s = absurd h
 window_ok one held w err calm window (Err (failed.NotYet part.Design place)) h s = absurd h
 window_ok one held w err calm window (Err (failed.NotYet part.Script line)) h s = absurd h
-window_ok one held w err calm window (Err (failed.NotYet part.Log at)) h (told, inside, (source, d, interval, vs, is, sound)) = absurd (sound_no_log one held w.device.before.bytes window at source d interval vs inside is sound (h told))
+window_ok one held w err calm window (Err (failed.NotYet part.Log at)) h (told, inside, inl (source, d, interval, vs, is, sound)) = absurd (sound_no_log one held w.device.before.bytes window at source d interval vs inside is sound (h told))
+window_ok one held w err calm window (Err (failed.NotYet part.Log at)) h (told, inside, inr (source, d, vs, has, is, read)) = absurd (log_not_ok one held w.device.before.bytes window at (h told) inside (source, d, has, is))
 window_ok one held w err calm window (Err (failed.Range fault)) h (told, inside, rest) = absurd (range_clash w.device.before.bytes window fault inside.range (h told).1)
 window_ok one held w err calm window (Err (failed.NotALog at)) h (told, inside, rest) = absurd (framed_clash w.device.before.bytes inside.plain.framed (h told).framed)
-window_ok one held w err calm window (Err (failed.Damaged at)) h (told, inside, (source, d, interval, vs, is, sound)) = absurd (sound_undamaged one held w.device.before.bytes at source d interval vs is sound (h told).1)
+window_ok one held w err calm window (Err (failed.Damaged at)) h (told, inside, inl (source, d, interval, vs, is, sound)) = absurd (sound_undamaged one held w.device.before.bytes window.to at source d interval vs is sound (h told).1)
+window_ok one held w err calm window (Err (failed.Damaged at)) h (told, inside, inr (source, d, vs, has, is, read)) = absurd (read_undamaged one held w.device.before.bytes window.to at source d vs has is read (h told).1)
 window_ok one held w err calm window (Err failed.Deck) h s = absurd (calm.deck h)
 window_ok one held w err calm window (Err failed.Read) h s = absurd h
 window_ok one held w err calm window (Err failed.Write) h s = absurd (calm.out h.0)
@@ -300,6 +336,20 @@ window_wrong one held w err calm window wanted (Err failed.Read) h s = absurd h
 window_wrong one held w err calm window wanted (Err failed.Write) h s = absurd (calm.out h.0)
 window_wrong one held w err calm window wanted (Err failed.Memory) h s = inr refl
 
+window_damaged : OneAnswer → Held → (w : World) (err : Count) → IsCalm w err → (window : span.Window) → (wanted : ℕ) (result : Result (Unit {0}) Fault) → WindowAnswers w.output w.device window result → WindowStands w.device window (Err (failed.Damaged wanted)) → IsWanted result (Err (failed.Damaged wanted))
+window_damaged one held w err calm window wanted (Ok done) h (told, inside, first) = let (r, holds, text) = h.1 told in absurd (held_undamaged one held w.device.before.bytes window.to wanted r holds first)
+window_damaged one held w err calm window wanted (Err failed.Usage) h s = absurd h
+window_damaged one held w err calm window wanted (Err (failed.NotYet part.Design place)) h s = absurd h
+window_damaged one held w err calm window wanted (Err (failed.NotYet part.Script line)) h s = absurd h
+window_damaged one held w err calm window wanted (Err (failed.NotYet part.Log at)) h (told, inside, first) = absurd (log_not_damaged one held w.device.before.bytes window at wanted (h told) inside first)
+window_damaged one held w err calm window wanted (Err (failed.Range fault)) h (told, inside, first) = absurd (range_clash w.device.before.bytes window fault inside.range (h told).1)
+window_damaged one held w err calm window wanted (Err (failed.NotALog at)) h (told, inside, first) = absurd (framed_clash w.device.before.bytes inside.plain.framed (h told).framed)
+window_damaged one held w err calm window wanted (Err (failed.Damaged at)) h (told, inside, first) = inl (ap (λ p. Err (failed.Damaged p)) (one_damaged one held w.device.before.bytes window.to at wanted (h told).1 first))
+window_damaged one held w err calm window wanted (Err failed.Deck) h s = absurd (calm.deck h)
+window_damaged one held w err calm window wanted (Err failed.Read) h s = absurd h
+window_damaged one held w err calm window wanted (Err failed.Write) h s = absurd (calm.out h.0)
+window_damaged one held w err calm window wanted (Err failed.Memory) h s = inr refl
+
 dump_first : OneAnswer → (w : World) (err : Count) → IsCalm w err → (result wanted : Result (Unit {0}) Fault) → DumpAnswers w.inputs w.output result → DumpStands w.inputs wanted → IsWanted result wanted
 dump_first one w err calm result (Ok done) h s = dump_ok one w err calm result h s
 dump_first one w err calm result (Err failed.Usage) h s = absurd s
@@ -336,7 +386,7 @@ window_first one held w err calm window result (Err (failed.NotYet part.Script l
 window_first one held w err calm window result (Err (failed.NotYet part.Log at)) h s = window_log one held w err calm window at result h s
 window_first one held w err calm window result (Err (failed.Range fault)) h s = window_range one held w err calm window fault result h s
 window_first one held w err calm window result (Err (failed.NotALog at)) h s = window_wrong one held w err calm window at result h s
-window_first one held w err calm window result (Err (failed.Damaged at)) h s = absurd s
+window_first one held w err calm window result (Err (failed.Damaged at)) h s = window_damaged one held w err calm window at result h s
 window_first one held w err calm window result (Err failed.Deck) h s = absurd s
 window_first one held w err calm window result (Err failed.Read) h s = absurd s
 window_first one held w err calm window result (Err failed.Write) h s = absurd s

@@ -12,7 +12,7 @@ use Rattle.vod_thin_replay.specs.declared.held.RangeFault.{RangeFault}
 use Rattle.vod_thin_replay.specs.declared.held.RangeFault.TheVariants as range
 use Rattle.vod_thin_code.specs.Bytes.{IsHead}
 use Rattle.vod_thin_code.specs.Held.{IsHeld, IsSound}
-use Rattle.vod_thin_replay.specs.Replay.{HoldsSource, IsHeadDamagedAt, IsDamagedAt, IsHeldUpTo, OnDamaged}
+use Rattle.vod_thin_replay.specs.Replay.{HoldsSource, IsHeadDamagedAt, IsDamagedAt, IsDamagedUpTo, IsHeldUpTo, OnDamaged}
 use Rattle.vod_thin_replay.specs.declared.ReplayFault.{ReplayFault}
 use Rattle.vod_thin_replay.specs.declared.ReplayFault.TheVariants as replay
 use Rattle.vod_thin_window.specs.declared.window.Window as span
@@ -46,10 +46,11 @@ no_form out deck window source f inside has read (inr (inr (at, e, refused))) sa
 
 -- the vectors aren't read
 pub no_vectors : (out : Output) (deck : Device) (window : span.Window) (source : List ℕ) (d : Netlist) (f : ReplayFault) → (deck.told → IsInside deck.before.bytes window) → (deck.told → HoldsSource deck.before.bytes source) → IsSource source d → IsAccepted d →
-    (f ≡ replay.Deck → IsDeckRisen deck) → OnDamaged f (λ at. deck.told → IsDamagedAt d deck.before.bytes at) → out.after ≡ out.before → WindowAnswers out deck window (Err (replay_fault f))
-no_vectors out deck window source d replay.Deck inside has is accepted rose wrong same = rose refl
-no_vectors out deck window source d (replay.Damaged at) inside has is accepted rose wrong same = λ told. (inside told, inr (source, d, has told, is, accepted, wrong told))
-no_vectors out deck window source d replay.Memory inside has is accepted rose wrong same = inl same
+    (f ≡ replay.Deck → IsDeckRisen deck) → OnDamaged f (λ at. deck.told → IsDamagedAt d deck.before.bytes at) → OnDamaged f (λ at. deck.told → IsDamagedUpTo d deck.before.bytes window.to at) → out.after ≡ out.before →
+    WindowAnswers out deck window (Err (replay_fault f))
+no_vectors out deck window source d replay.Deck inside has is accepted rose wrong first same = rose refl
+no_vectors out deck window source d (replay.Damaged at) inside has is accepted rose wrong first same = λ told. (inside told, inr (source, d, has told, is, accepted, wrong told, first told))
+no_vectors out deck window source d replay.Memory inside has is accepted rose wrong first same = inl same
 
 -- the laws that make of what is read what is held
 pub record Laws : Type 0 where
@@ -109,10 +110,10 @@ pub rose_from : (a b c : ℕ) → a ≤ b → Rose b c → Rose a c
 rose_from a b c le rose = omega (arith, le, rose)
 
 -- the same damage in the same bytes
-pub damaged_same : (f : ReplayFault) (told : Type 0) (d : Netlist) (a b : List ℕ) → (told → a ≡ b) → OnDamaged f (λ at. told → IsDamagedAt d a at) → OnDamaged f (λ at. told → IsDamagedAt d b at)
-damaged_same replay.Deck told d a b same h = tt
-damaged_same (replay.Damaged at) told d a b same h = λ t. subst (λ x. IsDamagedAt d x at) (same t) (h t)
-damaged_same replay.Memory told d a b same h = tt
+pub damaged_same : (f : ReplayFault) (told : Type 0) (P : List ℕ → ℕ → Type 0) (a b : List ℕ) → (told → a ≡ b) → OnDamaged f (λ at. told → P a at) → OnDamaged f (λ at. told → P b at)
+damaged_same replay.Deck told P a b same h = tt
+damaged_same (replay.Damaged at) told P a b same h = λ t. subst (λ x. P x at) (same t) (h t)
+damaged_same replay.Memory told P a b same h = tt
 
 -- the refusals behind the first
 later : span.Window → Option Header → Result (Unit {0}) RangeFault

@@ -12,7 +12,7 @@ use Rattle.vod_thin_script.specs.Script.{IsScript, IsRefused}
 use Rattle.vod_thin_code.specs.Held.{IsHeld, IsSound, IsEmpty, Acknowledges, said}
 use Rattle.vod_thin_store.specs.Stored.{HasSaid, Adds}
 use Rattle.vod_thin_replay.specs.Range.{range_of, first_image}
-use Rattle.vod_thin_replay.specs.Replay.{HoldsSource, IsHeadDamagedAt, IsDamagedAt}
+use Rattle.vod_thin_replay.specs.Replay.{HoldsSource, IsReadUpTo, IsHeadDamagedAt, IsDamagedAt, IsDamagedUpTo}
 use Rattle.vod_thin_window.specs.Request.{Request, dump_of, window_of, IsWritten, IsBegun}
 use Rattle.vod_program.specs.Command.{IsCommand}
 use Rattle.vod_program.specs.Sources.{IsSource, IsRefusedSource, IsOtherSource, IsUnrecordable}
@@ -175,9 +175,23 @@ pub record HoldsOther (bytes : List ℕ) : Type 0 where
   pub has_source : HoldsSource bytes source
   pub other : IsOtherSource source
 
--- the payload of the record at a gate is wrong
-abbrev pub IsDamaged : List ℕ → ℕ → Type 0
-IsDamaged bytes at = IsHeadDamagedAt bytes at ⊎ ((source : List ℕ) × (d : Netlist) × HoldsSource bytes source × IsSource source d × IsAccepted d × IsDamagedAt d bytes at)
+-- the payload of the record at a gate is wrong, the first such one up to a time
+abbrev pub IsDamaged : List ℕ → ℕ → ℕ → Type 0
+IsDamaged bytes to at =
+    IsHeadDamagedAt bytes at
+    ⊎ ((source : List ℕ) × (d : Netlist) × HoldsSource bytes source × IsSource source d × IsAccepted d × IsDamagedAt d bytes at × IsDamagedUpTo d bytes to at)
+
+-- what a log holds up to a time: its source with the design of that, and the vectors of its batches as far as the first that
+-- reaches the time, which are lawful
+pub record HoldsUpTo (bytes : List ℕ) (to : ℕ) (r : Request) : Type 0 where
+  pub has_source : HoldsSource bytes r.source
+  pub is_source : IsSource r.source r.design
+  pub accepted : IsAccepted r.design
+  pub read : IsReadUpTo r.design bytes to r.vectors
+
+-- a text of the window of what a log holds up to the window's end
+abbrev pub OnHeld : Device → span.Window → (Request → Type 0) → Type 0
+OnHeld deck window P = deck.told → (r : Request) × HoldsUpTo deck.before.bytes window.to r × P r
 
 -- on a sound log without an image: a text of the window of its source and vectors
 abbrev pub OnSound : Device → (Request → Type 0) → Type 0
@@ -186,14 +200,17 @@ OnSound deck P = deck.told → (source : List ℕ) (d : Netlist) (interval : ℕ
 
 -- the answers of `window LOG A B`
 abbrev pub WindowAnswers : Output → Device → span.Window → Result (Unit {0}) Fault → Type 0
-WindowAnswers out deck window (Ok done) = (deck.told → IsInside deck.before.bytes window × HoldsThin deck.before.bytes) × OnSound deck (λ r. IsWritten r (window_of r window.from window.to) out.before out.after)
+WindowAnswers out deck window (Ok done) =
+    (deck.told → IsInside deck.before.bytes window × HoldsThin deck.before.bytes)
+    × OnHeld deck window (λ r. IsWritten r (window_of r window.from window.to) out.before out.after)
+    × OnSound deck (λ r. IsWritten r (window_of r window.from window.to) out.before out.after)
 WindowAnswers out deck window (Err failed.Usage) = ⊥
 WindowAnswers out deck window (Err (failed.NotYet part.Design place)) = ⊥
 WindowAnswers out deck window (Err (failed.NotYet part.Script line)) = ⊥
 WindowAnswers out deck window (Err (failed.NotYet part.Log at)) = deck.told → HasImage deck.before.bytes at ⊎ (IsInside deck.before.bytes window × HoldsOther deck.before.bytes × (at ≡ 0))
 WindowAnswers out deck window (Err (failed.Range fault)) = deck.told → IsPlain deck.before.bytes × (range_of (counts_of (committed deck.before.bytes).last) window.from window.to ≡ Err fault)
 WindowAnswers out deck window (Err (failed.NotALog at)) = deck.told → IsWrongAt (committed deck.before.bytes) at
-WindowAnswers out deck window (Err (failed.Damaged at)) = deck.told → IsInside deck.before.bytes window × IsDamaged deck.before.bytes at
+WindowAnswers out deck window (Err (failed.Damaged at)) = deck.told → IsInside deck.before.bytes window × IsDamaged deck.before.bytes window.to at
 WindowAnswers out deck window (Err failed.Deck) = IsDeckRisen deck
 WindowAnswers out deck window (Err failed.Read) = ⊥
 WindowAnswers out deck window (Err failed.Write) = IsRisen out.faults × (deck.told → IsInside deck.before.bytes window × HoldsThin deck.before.bytes) × OnSound deck (λ r. IsBegun r (window_of r window.from window.to) out.before out.after)

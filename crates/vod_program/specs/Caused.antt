@@ -8,6 +8,7 @@ use Rattle.vod_log.specs.Opened.{IsWrongAt}
 use Rattle.vod_thin_script.specs.Script.{IsScript, IsRefused}
 use Rattle.vod_thin_code.specs.Held.{IsSound}
 use Rattle.vod_thin_replay.specs.Range.{range_of}
+use Rattle.vod_thin_replay.specs.Replay.{HoldsSource, IsReadUpTo, IsHeadDamagedAt, IsDamagedUpTo}
 use Rattle.vod_thin_replay.specs.declared.held.RangeFault.TheVariants as range
 use Rattle.vod_thin_window.specs.declared.window.Window as span
 use Rattle.vod_program.specs.Command.{IsCommand}
@@ -90,17 +91,22 @@ RecordStands i deck (Err failed.Read) = ⊥
 RecordStands i deck (Err failed.Write) = ⊥
 RecordStands i deck (Err failed.Memory) = ⊥
 
+-- the head of a log is wrong, or its source is read and the first wrong record up to a time stands at this gate
+abbrev pub IsFirstDamaged : List ℕ → ℕ → ℕ → Type 0
+IsFirstDamaged bytes to at = IsHeadDamagedAt bytes at ⊎ ((source : List ℕ) × (d : Netlist) × HoldsSource bytes source × IsSource source d × IsDamagedUpTo d bytes to at)
+
 -- for `window`
 abbrev pub WindowStands : Device → span.Window → Result (Unit {0}) Fault → Type 0
 WindowStands deck window (Ok done) = deck.told × IsInside deck.before.bytes window
-    × ((source : List ℕ) × (d : Netlist) × (interval : ℕ) × (vs : List Vector) × IsSource source d × IsSound d source interval vs deck.before.bytes)
+    × (((source : List ℕ) × (d : Netlist) × (interval : ℕ) × (vs : List Vector) × IsSource source d × IsSound d source interval vs deck.before.bytes)
+    ⊎ ((source : List ℕ) × (d : Netlist) × (vs : List Vector) × HoldsSource deck.before.bytes source × IsSource source d × IsReadUpTo d deck.before.bytes window.to vs))
 WindowStands deck window (Err failed.Usage) = ⊥
 WindowStands deck window (Err (failed.NotYet part.Design place)) = ⊥
 WindowStands deck window (Err (failed.NotYet part.Script line)) = ⊥
 WindowStands deck window (Err (failed.NotYet part.Log at)) = deck.told × (HasImage deck.before.bytes at ⊎ (IsInside deck.before.bytes window × HoldsOther deck.before.bytes × (at ≡ 0)))
 WindowStands deck window (Err (failed.Range fault)) = deck.told × IsPlain deck.before.bytes × (range_of (counts_of (committed deck.before.bytes).last) window.from window.to ≡ Err fault)
 WindowStands deck window (Err (failed.NotALog at)) = deck.told × IsWrongAt (committed deck.before.bytes) at
-WindowStands deck window (Err (failed.Damaged at)) = ⊥
+WindowStands deck window (Err (failed.Damaged at)) = deck.told × IsInside deck.before.bytes window × IsFirstDamaged deck.before.bytes window.to at
 WindowStands deck window (Err failed.Deck) = ⊥
 WindowStands deck window (Err failed.Read) = ⊥
 WindowStands deck window (Err failed.Write) = ⊥

@@ -4,11 +4,9 @@ ghost use Rattle.std.specs.Str.{bytes_eq};
 ghost use Rattle.vod_program.specs.Command.{IsCommand, IsTime};
 ghost use Rattle.vod_program.specs.declared.command.Command.{Command};
 
+use vod_io::MAX_TIME;
 use vod_text::decimal;
 use vod_thin_window::Window;
-
-/// The latest time.
-const MAX_TIME: u64 = 9_223_372_036_854_775_807;
 
 /// What the program is asked for.
 #[derive(Clone, Copy)]

@@ -4,11 +4,13 @@
 mod command;
 mod dump;
 mod faults;
+mod files;
 mod phase;
 mod record;
 mod status;
 mod top;
 mod window;
 
+pub use files::run;
 pub use status::{Fault, Part, Status, report};
 pub use top::vod;

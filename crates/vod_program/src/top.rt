@@ -22,7 +22,7 @@ use vod_deck::Deck;
 use vod_io::{Sink, Source};
 use vod_thin::{one_design, one_place, plain_names};
 use vod_thin_code::one_head;
-use vod_thin_replay::sound_is_undamaged;
+use vod_thin_replay::{one_damage, sound_is_undamaged};
 use vod_thin_script::{one_reading, one_refusal};
 use vod_thin_store::said_is_held;
 
@@ -138,6 +138,8 @@ pub fn vod<D: Source, S: Source, L: Deck, K: Sink, E: Sink>(
     one_head();
     // No record of a sound log is damaged.
     sound_is_undamaged();
+    // Of a log up to a time, all is read or one record is the first damaged one.
+    one_damage();
     // Where no more than the first k vectors are held, no more than k are acknowledged.
     said_is_held();
     let ended = answer(alloc, words, design, input, deck, out);

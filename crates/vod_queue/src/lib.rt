@@ -23,12 +23,19 @@ pub use crate::event::Event;
 use crate::fanout::Listeners;
 pub use crate::orders::{inputs_take_moves, orders_agree, orders_end};
 use std::alloc::{AllocError, Global};
+use std::fmt;
 use std::marker::Model;
 use vod_design::thin::{Bit, Design, Move};
 
 /// Memory ran out.
 #[derive(Clone, Copy, PartialEq, Eq)]
 pub struct Memory;
+
+impl fmt::Display for Memory {
+    fn fmt<W: fmt::Write>(&self, f: &mut fmt::Formatter<W>) -> fmt::Result {
+        f.write_str("there was no memory")
+    }
+}
 
 impl From<AllocError> for Memory {
     fn from(_e: AllocError) -> Memory {

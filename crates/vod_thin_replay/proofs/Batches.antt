@@ -166,7 +166,7 @@ held_up_to d one bytes to past read source interval vs held =
     by_cases rest all (inr reached) lawful = all_later d to past rest (subst (IsLawful d) all lawful) reached
 
 -- behind those of its front, batches have one that lawful vectors go on with
-at_front : (d : Netlist) → OneBatch d → (front : List Entry) (before : List Vector) (e : Entry) (back : List Entry) (vs ws : List Vector) → AreBatches d before (front ++ e ∷ back) vs → AreBatches d before front ws →
+pub at_front : (d : Netlist) → OneBatch d → (front : List Entry) (before : List Vector) (e : Entry) (back : List Entry) (vs ws : List Vector) → AreBatches d before (front ++ e ∷ back) vs → AreBatches d before front ws →
     (batch : List Vector) × IsBatch d ws e batch × ((rest : List Vector) × (vs ≡ (ws ++ batch) ++ rest))
 at_front d one [] before e back vs ws are front_is =
     let more = go_on d (before ++ are.0) back vs are.2 in

@@ -1,3 +1,4 @@
 pub mod Opened
 pub mod Payloads
 pub mod Batches
+pub mod Damages

@@ -8,7 +8,7 @@ mod source;
 mod vectors;
 
 pub use held::{RangeFault, first_image, range};
-pub use law::sound_is_undamaged;
+pub use law::{one_damage, sound_is_undamaged};
 pub use source::read_source;
 use std::alloc::AllocError;
 use std::fmt;

@@ -7,8 +7,10 @@ ghost use Rattle.vod_thin_script.specs.Held as held;
 
 use crate::held::{are_known, are_unmixed, may_begin, write};
 use std::alloc::{AllocError, AllocFailed, Global};
+use std::fmt;
 use std::marker::Model;
 use vod_design::thin::{Bit, Design, Input, Vector};
+use vod_io::MAX_TIME;
 
 /// Why a vector isn't added.
 #[derive(Clone, Copy, PartialEq, Eq)]
@@ -41,8 +43,14 @@ impl<T: Drop> From<AllocFailed<T>> for AddFault {
     }
 }
 
-/// The latest time of a vector.
-pub const MAX_TIME: u64 = 9_223_372_036_854_775_807;
+impl fmt::Display for AddFault {
+    fn fmt<W: fmt::Write>(&self, f: &mut fmt::Formatter<W>) -> fmt::Result {
+        f.write_str(match self {
+            AddFault::Refused => "the vector may not stand behind those before it",
+            AddFault::Memory => "there was no memory",
+        })
+    }
+}
 
 /// The vectors of a design's run so far, which are lawful.
 #[derive(Drop)]

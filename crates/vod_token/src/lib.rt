@@ -11,6 +11,7 @@ mod lexeme;
 mod nesting;
 mod number;
 mod reserved;
+pub mod spellings;
 mod symbol;
 mod value;
 

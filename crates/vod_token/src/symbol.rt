@@ -7,13 +7,52 @@ ghost use Rattle.vod_token.specs.Word.{is_among};
 ghost use Rattle.vod_token.specs.Form.{operators, marks};
 ghost use Rattle.vod_token.specs.Scan.{is_symbol, symbol_len};
 
+use crate::spellings;
+
 const OPERATORS: [&str; 27] = [
-    "===", "!==", "<<<", ">>>", "==", "!=", "<=", ">=", "&&", "||", "<<", ">>", "~&", "~|", "~^",
-    "^~", "+", "-", "*", "!", "~", "&", "|", "^", "<", ">", "?",
+    spellings::CASE_EQUAL,
+    spellings::CASE_NOT_EQUAL,
+    spellings::ARITHMETIC_LEFT,
+    spellings::ARITHMETIC_RIGHT,
+    spellings::EQUAL,
+    spellings::NOT_EQUAL,
+    spellings::LESS_EQUAL,
+    spellings::GREATER_EQUAL,
+    spellings::LOGICAL_AND,
+    spellings::LOGICAL_OR,
+    spellings::SHIFT_LEFT,
+    spellings::SHIFT_RIGHT,
+    spellings::BIT_NAND,
+    spellings::BIT_NOR,
+    spellings::BIT_XNOR,
+    spellings::XOR_NOT,
+    spellings::PLUS,
+    spellings::MINUS,
+    spellings::MULTIPLY,
+    spellings::LOGICAL_NOT,
+    spellings::BIT_NOT,
+    spellings::BIT_AND,
+    spellings::BIT_OR,
+    spellings::BIT_XOR,
+    spellings::LESS,
+    spellings::GREATER,
+    spellings::QUESTION,
 ];
 
 const MARKS: [&str; 13] = [
-    ":", "=", "(", ")", "[", "]", "{", "}", ",", ";", ".", "#", "@",
+    spellings::COLON,
+    spellings::EQUALS,
+    spellings::OPEN_PAREN,
+    spellings::CLOSE_PAREN,
+    spellings::OPEN_BRACKET,
+    spellings::CLOSE_BRACKET,
+    spellings::OPEN_BRACE,
+    spellings::CLOSE_BRACE,
+    spellings::COMMA,
+    spellings::SEMICOLON,
+    spellings::PERIOD,
+    spellings::HASH,
+    spellings::EVENT_CONTROL,
 ];
 
 // How long the longest symbol at the front is, 0 where there is none.

@@ -8,11 +8,18 @@ mod writer;
 
 pub use law::window_is_cut;
 use std::alloc::AllocError;
+use std::fmt;
 pub use writer::Writer;
 
 /// The refusal for want of memory.
 #[derive(Clone, Copy, PartialEq, Eq)]
 pub struct Memory;
+
+impl fmt::Display for Memory {
+    fn fmt<W: fmt::Write>(&self, f: &mut fmt::Formatter<W>) -> fmt::Result {
+        f.write_str("there was no memory")
+    }
+}
 
 impl From<AllocError> for Memory {
     ghost from_gives = { λ _ _. Unit {0} };

@@ -20,7 +20,7 @@ returns-in-Ok-clause-answered g c =
       device = record { told = g.L.Deck.tells; before = g.L.Deck.view c.args.deck.now; after = g.L.Deck.view c.answer-ended.new.deck };
     } in
     let one : OneAnswer = one_answer c.one_design.ensures c.one_place.ensures.refused c.one_place.ensures.thin c.plain_names.ensures c.one_reading.ensures c.one_refusal.ensures.line c.one_refusal.ensures.unread in
-    let held : Held = record { laws = record { one_head = c.one_head.ensures; one_design = one.design }; undamaged = c.sound_is_undamaged.ensures.batches } in
+    let held : Held = record { laws = record { one_head = c.one_head.ensures; one_design = one.design }; undamaged = c.sound_is_undamaged.ensures.batches; apart = c.one_damage.ensures.apart; place = c.one_damage.ensures.place; head = c.one_damage.ensures.head } in
     let err : Count = record { before = g.E.Sink.faults c.args.err.now; after = g.E.Sink.faults c.args.err.now } in
     answered one held w err (Ok c.in-Ok.field-0) status.Ok c.in-Ok.ensures.answers (inl refl)
 
@@ -38,7 +38,7 @@ returns-in-Err-clause-answered g c =
       device = record { told = g.L.Deck.tells; before = g.L.Deck.view c.args.deck.now; after = g.L.Deck.view c.answer-ended.new.deck };
     } in
     let one : OneAnswer = one_answer c.one_design.ensures c.one_place.ensures.refused c.one_place.ensures.thin c.plain_names.ensures c.one_reading.ensures c.one_refusal.ensures.line c.one_refusal.ensures.unread in
-    let held : Held = record { laws = record { one_head = c.one_head.ensures; one_design = one.design }; undamaged = c.sound_is_undamaged.ensures.batches } in
+    let held : Held = record { laws = record { one_head = c.one_head.ensures; one_design = one.design }; undamaged = c.sound_is_undamaged.ensures.batches; apart = c.one_damage.ensures.apart; place = c.one_damage.ensures.place; head = c.one_damage.ensures.head } in
     let err : Count = record { before = g.E.Sink.faults c.args.err.now; after = g.E.Sink.faults c.report.new.err } in
     answered one held w err (Err c.in-Err.fault) c.report.result c.in-Err.ensures.answers c.report.ensures.caused
 

@@ -3,7 +3,7 @@ use Rattle.std.proofs.lemmas.Result.{err_from_is_err_and}
 use Rattle.vod_deck.specs.Outcomes.{View}
 use Rattle.vod_design.specs.Netlist.{IsAccepted}
 use Rattle.vod_log.proofs.Opening.{unchanged-then}
-use Rattle.vod_thin_replay.specs.Replay.{HoldsSource, IsHeldUpTo}
+use Rattle.vod_thin_replay.specs.Replay.{HoldsSource, IsReadUpTo, IsHeldUpTo, IsDamagedAt, IsDamagedUpTo}
 use Rattle.vod_thin_window.specs.Request.{window_of, IsWritten, IsBegun}
 use Rattle.vod_program.specs.Answer.{Output, Device, IsInside, OnSound, WindowAnswers}
 use Rattle.vod_program.specs.Sources.{IsSource}
@@ -34,7 +34,8 @@ returns-in-Err-read_vectors-clause-answers g c =
     subst (λ s. WindowAnswers out deck window (Err s)) (sym c.replay_fault-in-Err-read_vectors.ensures)
     (no_vectors out deck window source d f inside has is (subst IsAccepted c.design.view_is c.design.invariant)
     (λ e. rose_from _ _ _ later (c.in-Err-read_vectors.ensures.caused (ap (λ v. Err v) e)))
-    (damaged_same f g.L.Deck.tells d _ deck.before.bytes second c.in-Err-read_vectors.ensures.damaged) refl)
+    (damaged_same f g.L.Deck.tells (λ b at. IsDamagedAt d b at) _ deck.before.bytes second c.in-Err-read_vectors.ensures.damaged)
+    (damaged_same f g.L.Deck.tells (λ b at. IsDamagedUpTo d b window.to at) _ deck.before.bytes second c.in-Err-read_vectors.ensures.needed) refl)
 
 pub returns-in-Ok-write_window-clause-answers : goal.returns-in-Ok-write_window-clause-answers
 returns-in-Ok-write_window-clause-answers g c =
@@ -54,6 +55,16 @@ returns-in-Ok-write_window-clause-answers g c =
     let written : IsWritten (request source d us) (window_of (request source d us) window.from window.to) out.before out.after =
     same_request (λ r. IsWritten r (window_of r window.from window.to) out.before out.after) _ source d _ us refl c.vectors.ensures.items c.in-Ok-write_window.ensures.written in (
       λ told. (inside told, (source, d, has told, is)),
+      λ told. (
+        request source d us,
+        record {
+          has_source = has told;
+          is_source = is;
+          accepted = c.in-Ok-write_window.ensures.accepted;
+          read = subst (λ b. IsReadUpTo d b window.to us) (second told) (c.in-Ok-read_vectors.ensures.read told);
+        },
+        written,
+      ),
       on_sound laws (λ r. IsWritten r (window_of r window.from window.to) out.before out.after) deck source d us window.to has is reads
           (λ told rest lawful over. c.window_of_front.ensures.written (request source d us) rest window.from window.to out.before out.after c.in-Ok-write_window.ensures.accepted lawful over (in_order deck.before.bytes window (inside told)) written),
     )

@@ -43,6 +43,9 @@ returns-clause-held g c = rw (← c.self.view_is) (λ tells.
     let goes_on : Continues c.self.inside.last c.args.frame.now = rw (← c.self.view_is) at c.requires.goes_on in
     held-gate _ _ _ _ _ settled.ends goes_on (c.in-Ok.ensures.written tells) _ (c.in-Ok-write_gate.ensures.written tells))
 
+pub returns-clause-bytes : goal.returns-clause-bytes
+returns-clause-bytes g c = rw (← c.self.view_is) (λ tells. ((g.L.Deck.view c.write_frame.new.deck).bytes, c.in-Ok.ensures.written tells, c.in-Ok-write_gate.ensures.written tells))
+
 pub returns-clause-settled : goal.returns-clause-settled
 returns-clause-settled g c = λ tells.
     let settled : IsSettled (g.L.Deck.view c.args.deck.now) c.self.inside.gate c.self.inside.last = rw (← c.self.view_is) at (c.requires.settled tells) c.if-self.false in
