@@ -1,5 +1,5 @@
 use crate::row::Object;
-use rows_text::{number_at, show_escaped, unescaped};
+use rows_text::{Page, number_at, unescaped};
 use std::alloc::{AllocError, Global};
 use vod_deck::{MemDeck, Room};
 use vod_io::{MemSink, MemSource};
@@ -172,28 +172,35 @@ fn page_of(
     err: &[u8],
     deck: &MemDeck,
 ) -> Result<String, AllocError> {
-    let mut page = format!(in alloc; "{}; out ", status.code())?;
-    show_escaped(&mut page, out)?;
-    page.push_str("; err ")?;
-    show_escaped(&mut page, err)?;
-    page.push_str("; said ")?;
-    show_escaped(&mut page, deck.said())?;
-    page.push_str(format!(in alloc; "; file {}", deck.bytes().len())?.as_str())?;
-    Ok(page)
+    let mut page = Page::new(String::new(alloc));
+    page.put_shown(&status.code());
+    page.put("; out ");
+    page.put_lines(out);
+    page.put("; err ");
+    page.put_lines(err);
+    page.put("; said ");
+    page.put_lines(deck.said());
+    page.put("; file ");
+    page.put_shown(&deck.bytes().len());
+    page.finish()
 }
 
 fn outcome_of(alloc: Global, deck: &MemDeck, pick: u64) -> Result<String, AllocError> {
     let left = deck.outcome(alloc, pick).map_err(|_| AllocError)?;
-    let mut page = "said ".to_string(alloc)?;
-    show_escaped(&mut page, left.said.as_slice())?;
+    let mut page = Page::new(String::new(alloc));
+    page.put("said ");
+    page.put_lines(left.said.as_slice());
     let mut after = MemDeck::new(alloc, left.bytes, ROOM, Vec::new(alloc), None).map_err(
         |_| AllocError,
     )?;
     match Log::open(alloc, &mut after) {
-        Ok(log) => page.push_str(format!(in alloc; "; holds {}", log.counts().vectors)?.as_str())?,
-        Err(_) => page.push_str("; no log")?,
+        Ok(log) => {
+            page.put("; holds ");
+            page.put_shown(&log.counts().vectors);
+        }
+        Err(_) => page.put("; no log"),
     }
-    Ok(page)
+    page.finish()
 }
 
 /// A script of so many vectors, of which each changes the data input `d`.

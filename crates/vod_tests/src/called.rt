@@ -21,8 +21,8 @@ fn sized(width: u8, kind: SizedKind) -> SizedExpr {
     }
 }
 
-fn number(width: u8, word: u64) -> SizedExpr {
-    sized(width, SizedKind::Number(Bits { width, word }))
+fn number(value: Bits) -> SizedExpr {
+    sized(value.width, SizedKind::Number(value))
 }
 
 fn named(variable: Variable) -> SizedExpr {
@@ -32,7 +32,7 @@ fn named(variable: Variable) -> SizedExpr {
 // The sum of the argument and 1.
 fn sum(alloc: Global) -> Result<SizedExpr, AllocError> {
     let argument = Boxed::new(alloc, named(Variable::Local(0)))?;
-    let one = match Boxed::new(alloc, number(4, 1)) {
+    let one = match Boxed::new(alloc, number(Bits { width: 4, word: 1 })) {
         Ok(one) => one,
         Err(_) => return Err(AllocError),
     };
@@ -64,7 +64,13 @@ fn assign_all(alloc: Global, statements: &mut Items<Statement>) -> Result<(), Al
     assign(alloc, statements, PartPlace::Bits(t, 0), 4, sum(alloc)?)?;
     assign(alloc, statements, PartPlace::Bits(f, 0), 4, named(t))?;
     let bit = PartPlace::Index(f, 0, named(Variable::Local(0)));
-    assign(alloc, statements, bit, 1, number(1, 0))
+    assign(
+        alloc,
+        statements,
+        bit,
+        1,
+        number(Bits { width: 1, word: 0 }),
+    )
 }
 
 fn body(alloc: Global) -> Result<Body, AllocError> {
@@ -103,17 +109,19 @@ fn room(alloc: Global, functions: &[Function], e: &SizedExpr) -> Result<Vec<Four
 {
     let rooms = call_rooms(alloc, functions)?;
     let count = expr_room(&rooms, e);
-    Ok(vec![in alloc; known(0); count]?)
+    let mut room = Vec::new(alloc);
+    for _ in 0..count {
+        room.push(UNKNOWN)?;
+    }
+    Ok(room)
 }
 
-// A value of four bits.
-fn known(ones: u64) -> Four {
-    Four {
-        width: 4,
-        ones,
-        unks: 0,
-    }
-}
+// Four unknown bits.
+const UNKNOWN: Four = Four {
+    width: 4,
+    ones: 0,
+    unks: 15,
+};
 
 // The value of a call of the function with the one signal.
 fn called(alloc: Global, functions: &[Function], argument: Four) -> Result<Four, AllocError> {
@@ -130,16 +138,17 @@ fn called(alloc: Global, functions: &[Function], argument: Four) -> Result<Four,
 #[test]
 fn a_call_runs_its_statements(rt: HostRuntime) -> Result<(), Fail> {
     let functions = [function(rt.alloc())?];
-    let unknown = Four {
-        width: 4,
-        ones: 0,
-        unks: 15,
-    };
     // f(2) is 3, whose bit 2 is 0; f(1) is 2 without its bit 1; an unknown index changes nothing.
     for (argument, value) in [
-        (known(2), known(3)),
-        (known(1), known(0)),
-        (unknown, unknown),
+        (
+            Four::of(Bits { width: 4, word: 2 }),
+            Four::of(Bits { width: 4, word: 3 }),
+        ),
+        (
+            Four::of(Bits { width: 4, word: 1 }),
+            Four::of(Bits { width: 4, word: 0 }),
+        ),
+        (UNKNOWN, UNKNOWN),
     ] {
         let given = called(rt.alloc(), &functions, argument)?;
         assert!(rt;
