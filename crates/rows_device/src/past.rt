@@ -1,6 +1,6 @@
 //! Rows about what is recorded in a log, and read back.
 ghost use Rattle.std.specs.Prelude.{◌^◌, ◌≤◌, length, IfOk};
-ghost use Rattle.vod_design.specs.Names.{HasPlainNames};
+ghost use Rattle.vod_thin_design.specs.Names.{HasPlainNames};
 ghost use Rattle.vod_thin.specs.Thin.{IsThin};
 
 use crate::bytes::push_bytes;
@@ -9,10 +9,10 @@ use crate::setup::Context;
 use crate::words::Stop;
 use std::alloc::Global;
 use vod_deck::MemDeck;
-use vod_design::thin::Design;
 use vod_io::Sink;
 use vod_log::{Bytes, Log};
 use vod_thin::{few_inputs, read_thin};
+use vod_thin_design::Design;
 use vod_thin_replay::{RangeFault, ReplayFault, first_image, range, read_source, read_vectors};
 use vod_thin_script::read_script;
 use vod_thin_store::StoreFault;

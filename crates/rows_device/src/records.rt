@@ -6,10 +6,10 @@ use crate::bytes::{Names, bytes_of, push_bytes};
 use crate::past::design_of;
 use crate::words::{Stop, count, halves, number};
 use std::alloc::{AllocError, Global};
-use vod_design::thin::{Bit, Design, Vector};
 use vod_log::Counts;
 use vod_thin::few_inputs;
 use vod_thin_code::{Frame, Memory, batches_are_short, read_head, read_vector};
+use vod_thin_design::{Bit, Design, Vector};
 
 // What is read or spelled.
 #[derive(Clone, Copy)]

@@ -1,14 +1,14 @@
 //! Dumps and windows, and what their writer writes.
 ghost use Rattle.std.specs.Prelude.{◌≡◌};
-ghost use Rattle.vod_design.specs.Names.{HasPlainNames};
+ghost use Rattle.vod_thin_design.specs.Names.{HasPlainNames};
 
 use rows_text::{Page, number_at};
 use std::alloc::{AllocError, Global};
-use vod_design::thin::{Bit, Design};
 use vod_io::{Failed, MemSink};
+use vod_thin_design::{Bit, Design};
 use vod_thin_script::read_script;
+use vod_thin_vcd::Writer;
 use vod_thin_window::{Window, WindowFault, write_dump, write_window};
-use vod_vcd::Writer;
 
 /// The most bytes of a dump.
 const ROOM: usize = 65_536;

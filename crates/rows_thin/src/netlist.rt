@@ -1,7 +1,7 @@
 //! Designs: the module's name, its signals and their kinds, its inputs and their classes, and its drivers, blocks and initial
 //! values, by the names of the signals.
 use rows_text::Page;
-use vod_design::thin::{Bit, Class, Design, Expr};
+use vod_thin_design::{Bit, Class, Design, Expr};
 
 /// The parts of a design.
 pub fn show_design(page: &mut Page, design: &Design) {

@@ -1,7 +1,7 @@
 //! A row: an operation, and what it is tried on. A row `design` reads a design, and the scripts of the rows behind it are of this
 //! one.
 ghost use Rattle.std.specs.Prelude.{◌≤◌, ◌^◌, length, IfOk};
-ghost use Rattle.vod_design.specs.Names.{HasPlainNames};
+ghost use Rattle.vod_thin_design.specs.Names.{HasPlainNames};
 
 use crate::dump::{show_dump, show_window, show_writes};
 use crate::netlist::show_design;
@@ -10,8 +10,8 @@ use crate::script::{show_added, show_script};
 use crate::sentence::show_sentence;
 use rows_text::{Page, number_at, unescaped};
 use std::alloc::{AllocError, Global};
-use vod_design::thin::Design;
 use vod_thin::{ThinFault, read_thin};
+use vod_thin_design::Design;
 use vod_thin_window::Window;
 
 /// The most bytes of a source.

@@ -1,14 +1,14 @@
 //! Runs of the event queue in an order of events: of those that may happen, the one with the number of the pick, counted round.
 ghost use Rattle.std.specs.Prelude.{◌≡◌, All};
-ghost use Rattle.vod_design.specs.Names.{HasPlainNames};
-ghost use Rattle.vod_design.specs.Vectors.{IsVector};
-ghost use Rattle.vod_queue.specs.State.{IsResting};
+ghost use Rattle.vod_thin_design.specs.Names.{HasPlainNames};
+ghost use Rattle.vod_thin_design.specs.Vectors.{IsVector};
+ghost use Rattle.vod_thin_queue.specs.State.{IsResting};
 
 use crate::netlist::digit_of;
 use rows_text::Page;
 use std::alloc::Global;
-use vod_design::thin::{Design, Vector};
-use vod_queue::Queue;
+use vod_thin_design::{Design, Vector};
+use vod_thin_queue::Queue;
 use vod_thin_script::{History, read_script};
 
 /// The run over a script: for each slot its time, how many events may happen before each one and behind the last, and the values

@@ -1,13 +1,13 @@
 //! Scripts: their vectors, the last time, and since when all inputs are known.
 ghost use Rattle.std.specs.Prelude.{◌≡◌, ◌<◌, length, IfOk};
-ghost use Rattle.vod_design.specs.Names.{HasPlainNames};
-ghost use Rattle.vod_design.specs.Netlist.{Netlist};
-ghost use Rattle.vod_design.specs.Vectors.{IsVector};
+ghost use Rattle.vod_thin_design.specs.Names.{HasPlainNames};
+ghost use Rattle.vod_thin_design.specs.Netlist.{Netlist};
+ghost use Rattle.vod_thin_design.specs.Vectors.{IsVector};
 
 use crate::netlist::{digit_of, input_name};
 use rows_text::Page;
 use std::alloc::{AllocError, Global};
-use vod_design::thin::{Bit, Design, Move, Moves, Vector};
+use vod_thin_design::{Bit, Design, Move, Moves, Vector};
 use vod_thin_script::{AddFault, History, read_script};
 
 /// What the lines of a script are.

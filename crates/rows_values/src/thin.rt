@@ -1,7 +1,7 @@
 //! Rows on single bits of the thin design: `thin`, an operator, its left operand, and the right ones that it is tried on.
 use rows_digits::named;
 use std::io;
-use vod_design::thin::Bit;
+use vod_thin_design::Bit;
 
 #[derive(Clone, Copy)]
 enum Operator {

@@ -1,8 +1,3 @@
-pub mod Bits
-pub mod Expr
-pub mod Netlist
-pub mod Vectors
-pub mod Names
 pub mod Values
 pub mod Eval
 pub mod Run

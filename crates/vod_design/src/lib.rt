@@ -1,9 +1,8 @@
-//! Designs: what a simulation is of, and the vectors that drive it.
+//! Designs: what a simulation is of.
 #![tactic(auto)]
 
 mod sized;
 mod statement;
-pub mod thin;
 
 pub use sized::{
     BinaryOp, ComparisonOp, LogicalOp, Named, ReductionOp, ShiftOp, SizedExpr, SizedKind, UnaryOp,

@@ -1,9 +1,9 @@
 -- Each answer of `dump`, from what its phases say.
 use Rattle.std.proofs.Common.{◌≡◌, ℕ, List, Err, refl, sym, subst, inl, inr}
 use Rattle.vod_io.specs.Told.{Told, Tells}
-use Rattle.vod_design.specs.declared.thin.Vector.{Vector}
-use Rattle.vod_design.specs.Netlist.{Netlist}
-use Rattle.vod_design.specs.Vectors.{IsLawful}
+use Rattle.vod_thin_design.specs.declared.thin.Vector.{Vector}
+use Rattle.vod_thin_design.specs.Netlist.{Netlist}
+use Rattle.vod_thin_design.specs.Vectors.{IsLawful}
 use Rattle.vod_thin_script.specs.Script.{IsScript, IsRefused}
 use Rattle.vod_thin_window.specs.declared.window.WindowFault.{WindowFault}
 use Rattle.vod_thin_window.specs.declared.window.WindowFault.TheVariants as fault

@@ -1,7 +1,7 @@
 -- Each status of the program, from the answer of its command and the report of it.
 use Rattle.std.proofs.Common.{◌≡◌, ◌⊎◌, ℕ, ◌<◌, ◌≤◌, ◌^◌, List, [], length, true, false, min, Option, None, Some, Result, Ok, Err, refl, sym, ap, subst, ◌∙◌, inl, inr, arith}
-use Rattle.vod_design.specs.declared.thin.Vector.{Vector}
-use Rattle.vod_design.specs.Netlist.{Netlist, IsAccepted}
+use Rattle.vod_thin_design.specs.declared.thin.Vector.{Vector}
+use Rattle.vod_thin_design.specs.Netlist.{Netlist, IsAccepted}
 use Rattle.vod_log.specs.Format.{committed, counts_of}
 use Rattle.vod_thin_script.specs.Script as script
 use Rattle.vod_thin_code.specs.Held.{IsHeld, IsSound}

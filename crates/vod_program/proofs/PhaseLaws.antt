@@ -2,7 +2,7 @@
 use Rattle.std.proofs.Common.{◌≡◌, ℕ, ◌<◌, ◌≤◌, ◌^◌, List, length, take, nat_lt, Bool, true, false, Option, Some, Result, Err, refl, sym, ap, subst, ◌∙◌, inl, inr, min, arith, take_all, IfErr}
 use Rattle.std.proofs.lemmas.Bool.Decides.{nat_tests}
 use Rattle.vod_io.specs.Told.{Told, Tells}
-use Rattle.vod_design.specs.Netlist.{Netlist}
+use Rattle.vod_thin_design.specs.Netlist.{Netlist}
 use Rattle.vod_thin.specs.declared.fault.ThinFault as thin
 use Rattle.vod_thin.specs.declared.fault.ThinFault.TheVariants as thins
 use Rattle.vod_thin.specs.Faults as thin_faults
@@ -17,7 +17,7 @@ use Rattle.vod_program.specs.declared.status.Part.{Part}
 use Rattle.vod_program.specs.declared.status.Part.TheVariants as part
 use Rattle.vod_program.specs.declared.status.Fault.{Fault}
 use Rattle.vod_program.specs.declared.status.Fault.TheVariants as failed
-use Rattle.vod_design.specs.declared.thin.Vector.{Vector}
+use Rattle.vod_thin_design.specs.declared.thin.Vector.{Vector}
 use Rattle.vod_program.specs.Sources.{IsSource, IsRefusedSource, IsOtherSource, IsUnrecordable}
 use Rattle.vod_program.specs.Phases.{fill_fault, thin_fault, script_fault, fault_within, Fails}
 

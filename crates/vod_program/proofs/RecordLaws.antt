@@ -5,8 +5,8 @@ use Rattle.vod_deck.specs.Outcomes.{Outcome, View, From, Only, Leaves, IsLive}
 use Rattle.vod_deck.proofs.Leaves.{leaves-wider, leaves-then}
 use Rattle.vod_log.specs.Format.{Reading, committed}
 use Rattle.vod_log.specs.Tail.{Opens}
-use Rattle.vod_design.specs.declared.thin.Vector.{Vector}
-use Rattle.vod_design.specs.Netlist.{Netlist}
+use Rattle.vod_thin_design.specs.declared.thin.Vector.{Vector}
+use Rattle.vod_thin_design.specs.Netlist.{Netlist}
 use Rattle.vod_thin_code.specs.Held.{IsHeld, IsEmpty, Acknowledges}
 use Rattle.vod_thin_store.specs.Stored.{HasSaid, IsAsBefore, HoldsFirst, Adds, Records}
 use Rattle.vod_thin_store.specs.declared.StoreFault.{StoreFault}

@@ -1,8 +1,8 @@
 -- What the laws of the readers say of the sources of the program.
 use Rattle.std.proofs.Common.{◌≡◌, ℕ, ◌<◌, ◌≤◌, ◌^◌, List, length, take, nat_lt, Bool, true, false, refl, sym, ap, subst, ◌∙◌, arith, take_all}
-use Rattle.vod_design.specs.declared.thin.Vector.{Vector}
-use Rattle.vod_design.specs.Netlist.{Netlist}
-use Rattle.vod_design.specs.Names.{HasPlainNames}
+use Rattle.vod_thin_design.specs.declared.thin.Vector.{Vector}
+use Rattle.vod_thin_design.specs.Netlist.{Netlist}
+use Rattle.vod_thin_design.specs.Names.{HasPlainNames}
 use Rattle.vod_thin.specs.Thin as thin
 use Rattle.vod_thin_script.specs.Script as script
 use Rattle.vod_program.specs.Sources.{IsSource, IsRefusedSource}

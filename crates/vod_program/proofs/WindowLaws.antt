@@ -1,9 +1,9 @@
 -- Each answer of `window`, from what its steps say.
 use Rattle.std.proofs.Common.{◌≡◌, ℕ, ◌<◌, ◌≤◌, ◌⊎◌, ◌==◌, List, [], ◌∷◌, ◌++◌, length, Bool, true, false, nat_le, nat_lt, if◌then◌else◌, Option, None, Some, Result, Ok, Err, All, refl, sym, ap, subst, ◌∙◌, inl, inr, arith, cond}
 use Rattle.std.proofs.lemmas.List.Elements.{All-head}
-use Rattle.vod_design.specs.declared.thin.Vector.{Vector}
-use Rattle.vod_design.specs.Netlist.{Netlist, IsAccepted}
-use Rattle.vod_design.specs.Vectors.{IsLawful, times}
+use Rattle.vod_thin_design.specs.declared.thin.Vector.{Vector}
+use Rattle.vod_thin_design.specs.Netlist.{Netlist, IsAccepted}
+use Rattle.vod_thin_design.specs.Vectors.{IsLawful, times}
 use Rattle.vod_io.specs.Faults.{Rose}
 use Rattle.vod_log.specs.Format.{Entry, committed, counts_of}
 use Rattle.vod_log.specs.declared.header.Header.{Header}

@@ -3,9 +3,9 @@ use Rattle.std.specs.Prelude.{◌≡◌, ℕ, ◌<◌, ◌≤◌, ◌⊎◌, tru
 use Rattle.vod_io.specs.Told.{Tells}
 use Rattle.vod_io.specs.Faults.{Rose}
 use Rattle.vod_deck.specs.Outcomes.{Outcome, View, From, Only}
-use Rattle.vod_design.specs.declared.thin.Vector.{Vector}
-use Rattle.vod_design.specs.Netlist.{Netlist, IsAccepted}
-use Rattle.vod_design.specs.Vectors.{IsLawful}
+use Rattle.vod_thin_design.specs.declared.thin.Vector.{Vector}
+use Rattle.vod_thin_design.specs.Netlist.{Netlist, IsAccepted}
+use Rattle.vod_thin_design.specs.Vectors.{IsLawful}
 use Rattle.vod_log.specs.Format.{committed, counts_of}
 use Rattle.vod_log.specs.Opened.{records_of, IsWrongAt}
 use Rattle.vod_thin_script.specs.Script.{IsScript, IsRefused}

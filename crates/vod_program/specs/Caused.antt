@@ -1,8 +1,8 @@
 -- The statuses of the program, each with its cause, and what stands in for each refusal.
 use Rattle.std.specs.Prelude.{◌≡◌, ℕ, ◌<◌, ◌≤◌, ◌⊎◌, List, [], length, Option, None, Some, Result, Ok, Err}
 use Rattle.vod_io.specs.Told.{appended, Puts}
-use Rattle.vod_design.specs.declared.thin.Vector.{Vector}
-use Rattle.vod_design.specs.Netlist.{Netlist}
+use Rattle.vod_thin_design.specs.declared.thin.Vector.{Vector}
+use Rattle.vod_thin_design.specs.Netlist.{Netlist}
 use Rattle.vod_log.specs.Format.{committed, counts_of}
 use Rattle.vod_log.specs.Opened.{IsWrongAt}
 use Rattle.vod_thin_script.specs.Script.{IsScript, IsRefused}

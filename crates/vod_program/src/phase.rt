@@ -3,8 +3,8 @@ ghost use Rattle.std.specs.List.Sorted.{IsStrictlyIncreasing};
 ghost use Rattle.std.specs.Prelude.{◌≡◌, ◌<◌, ◌≤◌, ◌^◌, ℕ, List, [], All, Err, take, nat_lt, length, false, IsTrue, IfOk, IfErr};
 ghost use Rattle.vod_io.specs.Told.{Told, Tells};
 ghost use Rattle.vod_io.specs.Faults.{Rose};
-ghost use Rattle.vod_design.specs.Names.{HasPlainNames};
-ghost use Rattle.vod_design.specs.Vectors.{assigned};
+ghost use Rattle.vod_thin_design.specs.Names.{HasPlainNames};
+ghost use Rattle.vod_thin_design.specs.Vectors.{assigned};
 ghost use Rattle.vod_thin_script.specs.Script.{IsScript, IsRefused};
 ghost use Rattle.vod_program.specs.Sources.{IsSource, IsRefusedSource, IsOtherSource, IsUnrecordable};
 ghost use Rattle.vod_program.specs.Phases.{fault_within, Fails};
@@ -12,9 +12,9 @@ ghost use Rattle.vod_program.specs.declared.status.Part.TheVariants as part;
 
 use crate::status::{Fault, Part};
 use std::alloc::Global;
-use vod_design::thin::Design;
 use vod_io::{FillFault, Filled, Source, fill};
 use vod_thin::{ThinFault, read_thin};
+use vod_thin_design::Design;
 use vod_thin_script::{History, ScriptFault, read_script};
 
 /// The most bytes of a design and of a script.

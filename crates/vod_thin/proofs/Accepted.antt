@@ -8,14 +8,14 @@ use Rattle.std.proofs.lemmas.List.{length-map}
 use Rattle.std.proofs.lemmas.List.Elements.{All-nil, All-cons, All-append, All-map, All-weaker}
 use Rattle.std.proofs.lemmas.List.Folds.{list_any-append}
 use Rattle.std.proofs.lemmas.Option.{slice_get_cases}
-use Rattle.vod_design.specs.declared.thin.Expr.{Expr}
-use Rattle.vod_design.specs.declared.thin.Driver.{Driver}
-use Rattle.vod_design.specs.declared.thin.Block.{Block}
-use Rattle.vod_design.specs.declared.thin.Initial.{Initial}
-use Rattle.vod_design.specs.Bits.{is_known}
-use Rattle.vod_design.specs.Expr.{reads}
-use Rattle.vod_design.specs.Netlist as netlist
-use Rattle.vod_design.specs.Netlist.{Netlist, IsAccepted, has, input_signals, data_signals, clock_signals, targets, assigned_registers, initial_registers, has_source}
+use Rattle.vod_thin_design.specs.declared.thin.Expr.{Expr}
+use Rattle.vod_thin_design.specs.declared.thin.Driver.{Driver}
+use Rattle.vod_thin_design.specs.declared.thin.Block.{Block}
+use Rattle.vod_thin_design.specs.declared.thin.Initial.{Initial}
+use Rattle.vod_thin_design.specs.Bits.{is_known}
+use Rattle.vod_thin_design.specs.Expr.{reads}
+use Rattle.vod_thin_design.specs.Netlist as netlist
+use Rattle.vod_thin_design.specs.Netlist.{Netlist, IsAccepted, has, input_signals, data_signals, clock_signals, targets, assigned_registers, initial_registers, has_source}
 use Rattle.vod_thin_syntax.specs.Syntax.{Name, Mark, Item, Wire, Register, Assign, Always, Port, Module}
 use Rattle.vod_thin.specs.declared.names.Kind.{Kind}
 use Rattle.vod_thin.specs.declared.names.Kind.TheVariants as kind

@@ -1,14 +1,14 @@
 -- A sentence without a fault is made into its design.
 use Rattle.std.proofs.Common.{◌≡◌, ℕ, ◌≤◌, ◌^◌, ◌++◌, ◌∷◌, [], All, List, Option, None, length, refl, sym, ap, ◌∙◌, subst}
 use Rattle.vod_token.specs.declared.Token.{Token}
-use Rattle.vod_design.specs.declared.thin.Bit.{Bit}
-use Rattle.vod_design.specs.declared.thin.Bit.TheVariants as bit
-use Rattle.vod_design.specs.declared.thin.Expr.{Expr}
-use Rattle.vod_design.specs.declared.thin.Expr.TheVariants as expr
-use Rattle.vod_design.specs.Bits.{not_bit, and_bit, or_bit, xor_bit}
-use Rattle.vod_design.specs.Expr.{value_of, reads}
-use Rattle.vod_design.specs.Names.{HasPlainNames}
-use Rattle.vod_design.specs.Netlist.{Netlist, IsAccepted}
+use Rattle.vod_thin_design.specs.declared.thin.Bit.{Bit}
+use Rattle.vod_thin_design.specs.declared.thin.Bit.TheVariants as bit
+use Rattle.vod_thin_design.specs.declared.thin.Expr.{Expr}
+use Rattle.vod_thin_design.specs.declared.thin.Expr.TheVariants as expr
+use Rattle.vod_thin_design.specs.Bits.{not_bit, and_bit, or_bit, xor_bit}
+use Rattle.vod_thin_design.specs.Expr.{value_of, reads}
+use Rattle.vod_thin_design.specs.Names.{HasPlainNames}
+use Rattle.vod_thin_design.specs.Netlist.{Netlist, IsAccepted}
 use Rattle.vod_thin_syntax.specs.Limit.{sooner}
 use Rattle.vod_thin_syntax.specs.Names.{names_of, IsIdentifier}
 use Rattle.vod_thin_syntax.specs.Outcome.{IsRead}

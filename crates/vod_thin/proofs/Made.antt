@@ -5,16 +5,16 @@ use Rattle.std.specs.Str.{bytes_eq}
 use Rattle.std.proofs.lemmas.List.{length-map, map-append}
 use Rattle.std.proofs.lemmas.List.Elements.{All-head, All-tail}
 use Rattle.vod_token.specs.declared.Token.{Token}
-use Rattle.vod_design.specs.declared.thin.Expr.{Expr}
-use Rattle.vod_design.specs.declared.thin.Expr.TheVariants as expr
-use Rattle.vod_design.specs.declared.thin.Driver.{Driver}
-use Rattle.vod_design.specs.declared.thin.Block.{Block}
-use Rattle.vod_design.specs.declared.thin.Input.{Input}
-use Rattle.vod_design.specs.declared.thin.Initial.{Initial}
-use Rattle.vod_design.specs.declared.thin.Signal as design_signal
-use Rattle.vod_design.specs.Expr.{reads}
-use Rattle.vod_design.specs.Names.{HasPlainNames}
-use Rattle.vod_design.specs.Netlist.{Netlist, IsAccepted}
+use Rattle.vod_thin_design.specs.declared.thin.Expr.{Expr}
+use Rattle.vod_thin_design.specs.declared.thin.Expr.TheVariants as expr
+use Rattle.vod_thin_design.specs.declared.thin.Driver.{Driver}
+use Rattle.vod_thin_design.specs.declared.thin.Block.{Block}
+use Rattle.vod_thin_design.specs.declared.thin.Input.{Input}
+use Rattle.vod_thin_design.specs.declared.thin.Initial.{Initial}
+use Rattle.vod_thin_design.specs.declared.thin.Signal as design_signal
+use Rattle.vod_thin_design.specs.Expr.{reads}
+use Rattle.vod_thin_design.specs.Names.{HasPlainNames}
+use Rattle.vod_thin_design.specs.Netlist.{Netlist, IsAccepted}
 use Rattle.vod_thin_syntax.specs.declared.words.Word.TheVariants as word
 use Rattle.vod_thin_syntax.specs.Names.{names_of, IsIdentifier}
 use Rattle.vod_thin_syntax.specs.Refusal.{Reads}

@@ -10,12 +10,12 @@ use Rattle.std.proofs.lemmas.List.Quantifiers.{all_pairs_push}
 use Rattle.std.proofs.lemmas.List.Sums.{passes_at_first}
 use Rattle.std.proofs.lemmas.Option.{slice_get_within, get_or_from_slice_get}
 use Rattle.std.proofs.lemmas.Slice.Eq.{bytes_eq-Decides}
-use Rattle.vod_design.specs.declared.thin.Expr.{Expr}
-use Rattle.vod_design.specs.declared.thin.Input.{Input}
-use Rattle.vod_design.specs.declared.thin.Initial.{Initial}
-use Rattle.vod_design.specs.declared.thin.Signal as design_signal
-use Rattle.vod_design.specs.Netlist as netlist
-use Rattle.vod_design.specs.Netlist.{Netlist, has, input_signals, data_signals, clock_signals, is_clock, initial_registers}
+use Rattle.vod_thin_design.specs.declared.thin.Expr.{Expr}
+use Rattle.vod_thin_design.specs.declared.thin.Input.{Input}
+use Rattle.vod_thin_design.specs.declared.thin.Initial.{Initial}
+use Rattle.vod_thin_design.specs.declared.thin.Signal as design_signal
+use Rattle.vod_thin_design.specs.Netlist as netlist
+use Rattle.vod_thin_design.specs.Netlist.{Netlist, has, input_signals, data_signals, clock_signals, is_clock, initial_registers}
 use Rattle.vod_thin_syntax.specs.Syntax.{Name, Mark, Item, Module}
 use Rattle.vod_thin.specs.declared.names.Kind.{Kind}
 use Rattle.vod_thin.specs.Signals.{Declared, signals_of, entries, kind_of, has_name, has_text, texts, clocks, is_input, is_register}

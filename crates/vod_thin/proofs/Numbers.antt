@@ -6,11 +6,11 @@ use Rattle.std.proofs.lemmas.Bool.Decides.{nat_tests}
 use Rattle.std.proofs.lemmas.List.Elements.{All-nil, All-cons, All-weaker}
 use Rattle.std.proofs.lemmas.List.Folds.{list_any_none, list_any_at}
 use Rattle.std.specs.Prelude.{slice_index_or, Some, Option}
-use Rattle.vod_design.specs.declared.thin.Class.{Class}
-use Rattle.vod_design.specs.declared.thin.Input.{Input}
-use Rattle.vod_design.specs.declared.thin.Initial.{Initial}
-use Rattle.vod_design.specs.Bits.{is_known}
-use Rattle.vod_design.specs.Netlist.{has, is_clock}
+use Rattle.vod_thin_design.specs.declared.thin.Class.{Class}
+use Rattle.vod_thin_design.specs.declared.thin.Input.{Input}
+use Rattle.vod_thin_design.specs.declared.thin.Initial.{Initial}
+use Rattle.vod_thin_design.specs.Bits.{is_known}
+use Rattle.vod_thin_design.specs.Netlist.{has, is_clock}
 use Rattle.vod_thin.specs.declared.names.Kind.{Kind}
 use Rattle.vod_thin.specs.declared.names.Kind.TheVariants as kind
 use Rattle.vod_thin.specs.Signals.{has_text, is_input, is_register}

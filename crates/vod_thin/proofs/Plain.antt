@@ -15,10 +15,10 @@ use Rattle.vod_thin_syntax.specs.Tokens.{Falls}
 use Rattle.vod_thin_syntax.specs.Names.{item_names, names_of, IsIdentifier}
 use Rattle.vod_thin_syntax.specs.Tokens.Falls.{ends, skips, takes, stops}
 use Rattle.vod_thin_syntax.specs.Syntax.{Name, Mark, Value, Item, Wire, Register, Assign, Always, Port, Module}
-use Rattle.vod_design.specs.declared.thin.Expr.{Expr}
-use Rattle.vod_design.specs.declared.thin.Signal as design_signal
-use Rattle.vod_design.specs.Names.{input_names, is_plain, HasPlainNames}
-use Rattle.vod_design.specs.Netlist.{has, input_signals}
+use Rattle.vod_thin_design.specs.declared.thin.Expr.{Expr}
+use Rattle.vod_thin_design.specs.declared.thin.Signal as design_signal
+use Rattle.vod_thin_design.specs.Names.{input_names, is_plain, HasPlainNames}
+use Rattle.vod_thin_design.specs.Netlist.{has, input_signals}
 use Rattle.vod_thin.specs.declared.names.Kind.{Kind}
 use Rattle.vod_thin.specs.declared.names.Kind.TheVariants as kind
 use Rattle.vod_thin.specs.Signals.{Declared, port_kind, declared_port, declared_by, signals_of, entries, texts, clocks, is_input}

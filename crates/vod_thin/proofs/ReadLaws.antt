@@ -2,7 +2,7 @@
 use Rattle.std.proofs.Common.{◌≡◌, ◌≢◌, ℕ, Bool, true, false, List, [], Option, None, Some, refl, sym, ap, ◌∙◌, subst}
 use Rattle.std.specs.Prelude.{Result, Ok, Err, IfOk, IfErr, MatchResult}
 use Rattle.vod_token.specs.declared.Token.{Token}
-use Rattle.vod_design.specs.Netlist.{Netlist}
+use Rattle.vod_thin_design.specs.Netlist.{Netlist}
 use Rattle.vod_thin_syntax.specs.Refusal.{Reads, Breaks, IsRefusedAt}
 use Rattle.vod_thin_syntax.specs.Limit.{sooner, limit_of}
 use Rattle.vod_thin_syntax.specs.Outcome as outcome

@@ -1,8 +1,8 @@
 -- What is grouped as operators bind is read as its expression.
 use Rattle.std.proofs.Common.{◌≡◌, ℕ, ◌<◌, ◌≤◌, nat_le, nat_lt, Bool, true, false, ◌&&◌, if◌then◌else◌, List, [], ◌∷◌, ◌++◌, refl, sym, ap, ◌∙◌, arith}
 use Rattle.std.proofs.lemmas.Bool.Decides.{nat_tests}
-use Rattle.vod_design.specs.declared.thin.Expr.{Expr}
-use Rattle.vod_design.specs.declared.thin.Expr.TheVariants as expr
+use Rattle.vod_thin_design.specs.declared.thin.Expr.{Expr}
+use Rattle.vod_thin_design.specs.declared.thin.Expr.TheVariants as expr
 use Rattle.vod_thin_syntax.specs.declared.words.Word.TheVariants as word
 use Rattle.vod_thin_syntax.specs.Syntax as tree
 use Rattle.vod_thin_syntax.specs.Syntax.{Name, Mark, Named, Fixed, Value, Plain, Group, Joined, operator_word, tilde, value_marks, strength, level, is_grouped}

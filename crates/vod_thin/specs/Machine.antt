@@ -1,7 +1,7 @@
 -- Expressions read token by token: what was begun, the last first, and the operand that was read last.
 use Rattle.std.specs.Prelude.{ℕ, Bool, nat_le, List, [], ◌∷◌, if◌then◌else◌}
-use Rattle.vod_design.specs.declared.thin.Expr.{Expr}
-use Rattle.vod_design.specs.declared.thin.Expr.TheVariants as expr
+use Rattle.vod_thin_design.specs.declared.thin.Expr.{Expr}
+use Rattle.vod_thin_design.specs.declared.thin.Expr.TheVariants as expr
 use Rattle.vod_thin_syntax.specs.declared.words.Word.{Word}
 use Rattle.vod_thin_syntax.specs.declared.words.Word.TheVariants as word
 use Rattle.vod_thin_syntax.specs.Syntax.{Mark, Named, Fixed}

@@ -1,6 +1,6 @@
 -- The code's machine as the definitions see it.
 use Rattle.std.specs.Prelude.{◌≡◌, ℕ, Bool, false, nat_le, List, reverse}
-use Rattle.vod_design.specs.declared.thin.Expr.{Expr}
+use Rattle.vod_thin_design.specs.declared.thin.Expr.{Expr}
 use Rattle.vod_thin.specs.declared.machine.Frame.{Frame}
 use Rattle.vod_thin.specs.declared.machine.Frame.TheVariants.{Inverted, Opened, Left}
 use Rattle.vod_thin.specs.declared.machine.Machine as code_machine

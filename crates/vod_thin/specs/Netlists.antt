@@ -2,18 +2,18 @@
 use Rattle.std.specs.Prelude.{ℕ, List, [], ◌∷◌, map, Bool, true, false, if◌then◌else◌, Some}
 use Rattle.std.specs.List.{flat_map, enumerate_from, position_or_len}
 use Rattle.std.specs.Str.{bytes_eq}
-use Rattle.vod_design.specs.declared.thin.Bit.{Bit}
-use Rattle.vod_design.specs.declared.thin.Bit.TheVariants as bit
-use Rattle.vod_design.specs.declared.thin.Signal as design_signal
-use Rattle.vod_design.specs.declared.thin.Class.{Class}
-use Rattle.vod_design.specs.declared.thin.Class.TheVariants as class
-use Rattle.vod_design.specs.declared.thin.Input as design_input
-use Rattle.vod_design.specs.declared.thin.Expr.{Expr}
-use Rattle.vod_design.specs.declared.thin.Expr.TheVariants as expr
-use Rattle.vod_design.specs.declared.thin.Driver.{Driver}
-use Rattle.vod_design.specs.declared.thin.Block.{Block}
-use Rattle.vod_design.specs.declared.thin.Initial.{Initial}
-use Rattle.vod_design.specs.Netlist.{Netlist}
+use Rattle.vod_thin_design.specs.declared.thin.Bit.{Bit}
+use Rattle.vod_thin_design.specs.declared.thin.Bit.TheVariants as bit
+use Rattle.vod_thin_design.specs.declared.thin.Signal as design_signal
+use Rattle.vod_thin_design.specs.declared.thin.Class.{Class}
+use Rattle.vod_thin_design.specs.declared.thin.Class.TheVariants as class
+use Rattle.vod_thin_design.specs.declared.thin.Input as design_input
+use Rattle.vod_thin_design.specs.declared.thin.Expr.{Expr}
+use Rattle.vod_thin_design.specs.declared.thin.Expr.TheVariants as expr
+use Rattle.vod_thin_design.specs.declared.thin.Driver.{Driver}
+use Rattle.vod_thin_design.specs.declared.thin.Block.{Block}
+use Rattle.vod_thin_design.specs.declared.thin.Initial.{Initial}
+use Rattle.vod_thin_design.specs.Netlist.{Netlist}
 use Rattle.vod_thin_syntax.specs.Syntax.{Name, Item, Wire, Register, Assign, Always, Module, Operator, And, Xor, Or, Value, Plain, Group, Joined}
 use Rattle.vod_thin.specs.declared.names.Kind.{Kind}
 use Rattle.vod_thin.specs.declared.names.Kind.TheVariants as kind

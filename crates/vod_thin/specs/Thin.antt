@@ -1,7 +1,7 @@
 -- Which sources are of the thin form, the design of each, and where others are refused.
 use Rattle.std.specs.Prelude.{◌≡◌, ℕ, Bool, false, List, [], Option, None, Some}
 use Rattle.vod_token.specs.declared.Token.{Token}
-use Rattle.vod_design.specs.Netlist.{Netlist}
+use Rattle.vod_thin_design.specs.Netlist.{Netlist}
 use Rattle.vod_thin_syntax.specs.Limit.{sooner, limit_of}
 use Rattle.vod_thin_syntax.specs.Refusal.{Reads, IsRefusedAt}
 use Rattle.vod_thin_syntax.specs.Syntax.{Value, Module, printed}

@@ -2,8 +2,8 @@
 use Rattle.std.specs.Prelude.{◌≡◌, ℕ, Bool, List, [], ◌∷◌, ◌++◌, slice_get, Option, None, Some, if◌then◌else◌}
 use Rattle.std.specs.Option.{is_some}
 use Rattle.std.specs.Str.{bytes_eq}
-use Rattle.vod_design.specs.declared.thin.Input.{Input}
-use Rattle.vod_design.specs.declared.thin.Initial.{Initial}
+use Rattle.vod_thin_design.specs.declared.thin.Input.{Input}
+use Rattle.vod_thin_design.specs.declared.thin.Initial.{Initial}
 use Rattle.vod_thin.specs.declared.names.Kind.{Kind}
 use Rattle.vod_thin.specs.Netlists.{input_of, initial_of}
 use Rattle.vod_thin.specs.Signals.{Declared, has_text}

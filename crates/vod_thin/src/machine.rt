@@ -1,13 +1,13 @@
 //! Expressions read token by token: what was begun, and the operand that was read last.
 ghost use Rattle.std.specs.Prelude.{◌≡◌, nat_le, IfOk, OnOk, MatchOption, ◌∷◌, [], Some, None, true};
-ghost use Rattle.vod_design.specs.declared.thin.Expr.TheVariants as expr;
+ghost use Rattle.vod_thin_design.specs.declared.thin.Expr.TheVariants as expr;
 ghost use Rattle.vod_thin.specs.Machine.{tight, combined, reduce, settled, closed, on_close, on_operator, on_word, start, machine, last_of};
 ghost use Rattle.vod_thin.specs.MachineView.{machine_of, frames_of, binds, taken_in, RestsAt};
 
 use crate::let_go;
 use sqlite_items::{Boxed, Items};
 use std::alloc::{AllocError, Global};
-use vod_design::thin::Expr;
+use vod_thin_design::Expr;
 use vod_thin_syntax::Word;
 
 /// An operator of two operands.

@@ -1,7 +1,7 @@
 //! The design of a module whose names keep the rules.
 ghost use Rattle.std.specs.Prelude.{◌≡◌, ◌<◌, ◌≤◌, ◌^◌, ◌++◌, Some, slice_get, map, length, IfOk, OnOk};
 ghost use Rattle.std.specs.List.{flat_map};
-ghost use Rattle.vod_design.specs.Netlist.{netlist_of};
+ghost use Rattle.vod_thin_design.specs.Netlist.{netlist_of};
 ghost use Rattle.vod_token.specs.Nesting.{slice_of};
 ghost use Rattle.vod_thin_syntax.specs.View.{mark_of, marks_of, marks_in, item_of, module_of};
 ghost use Rattle.vod_thin.specs.Signals.{has_text, is_register};
@@ -15,7 +15,7 @@ use crate::machine::Machine;
 use crate::names::{Kind, Names, Signals};
 use crate::text::Text;
 use std::alloc::{AllocError, Global};
-use vod_design::thin::{Bit, Block, Class, Driver, Expr, Initial, Input, Name, Parts, Signal};
+use vod_thin_design::{Bit, Block, Class, Driver, Expr, Initial, Input, Name, Parts, Signal};
 use vod_thin_syntax::{Item, Module, Span, word_of};
 use vod_token::Token;
 

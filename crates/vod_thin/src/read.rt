@@ -1,7 +1,7 @@
 //! A source of the thin form, as its design.
 ghost use Rattle.std.specs.Prelude.{◌≡◌, ◌≢◌, ◌≤◌, ◌^◌, ℕ, List, Bool, false, length, IsTrue, IfOk, IfErr, MatchResult};
-ghost use Rattle.vod_design.specs.Names.{HasPlainNames};
-ghost use Rattle.vod_design.specs.Netlist.{Netlist, IsAccepted};
+ghost use Rattle.vod_thin_design.specs.Names.{HasPlainNames};
+ghost use Rattle.vod_thin_design.specs.Netlist.{Netlist, IsAccepted};
 ghost use Rattle.vod_thin_syntax.specs.Outcome.{IsRead};
 ghost use Rattle.vod_thin_syntax.specs.View.{module_of};
 ghost use Rattle.vod_thin.specs.Faults.{IsFault};
@@ -14,7 +14,7 @@ use crate::netlist::Builder;
 use crate::text::Text;
 use crate::{ThinFault, let_go};
 use std::alloc::{AllocError, Global};
-use vod_design::thin::{Design, expr_by_operands};
+use vod_thin_design::{Design, expr_by_operands};
 use vod_thin_syntax::{
     Module, Sentence, inputs_are_few, names_are_identifiers, one_sentence, read_sentence,
 };

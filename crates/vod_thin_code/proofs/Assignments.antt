@@ -9,11 +9,11 @@ use Rattle.std.proofs.lemmas.List.{drop-drop, append-nil}
 use Rattle.std.proofs.lemmas.List.Elements.{All-head, All-tail, All-cons, All-nil}
 use Rattle.std.proofs.lemmas.List.Kept.{AllPairs-from_increasing}
 use Rattle.std.proofs.lemmas.Nat.{from_le_bytes-to_le_bytes_4, from_le_bytes-to_le_bytes_8}
-use Rattle.vod_design.specs.declared.thin.Bit.{Bit}
-use Rattle.vod_design.specs.declared.thin.Bit.TheVariants.{Zero, One, X, Z}
-use Rattle.vod_design.specs.declared.thin.Move.{Move}
-use Rattle.vod_design.specs.Bits.{is_known}
-use Rattle.vod_design.specs.Vectors.{assigned}
+use Rattle.vod_thin_design.specs.declared.thin.Bit.{Bit}
+use Rattle.vod_thin_design.specs.declared.thin.Bit.TheVariants.{Zero, One, X, Z}
+use Rattle.vod_thin_design.specs.declared.thin.Move.{Move}
+use Rattle.vod_thin_design.specs.Bits.{is_known}
+use Rattle.vod_thin_design.specs.Vectors.{assigned}
 use Rattle.vod_thin_code.specs.Bytes.{number_of, move_bytes}
 use Rattle.vod_thin_code.specs.Moves.{bit_of, move_of, move_at, in_front, followed, moves_at}
 use Rattle.vod_thin_code.proofs.Batches.{small_value}

@@ -1,7 +1,7 @@
 -- A log is of one source, one interval and one list of vectors.
 use Rattle.std.proofs.Common.{◌≡◌, ℕ, ◌<◌, ◌^◌, List, [], ◌∷◌, ◌++◌, length, sym, ◌∙◌, subst, arith}
-use Rattle.vod_design.specs.declared.thin.Vector.{Vector}
-use Rattle.vod_design.specs.Netlist.{Netlist}
+use Rattle.vod_thin_design.specs.declared.thin.Vector.{Vector}
+use Rattle.vod_thin_design.specs.Netlist.{Netlist}
 use Rattle.vod_log.specs.Format.{Entry}
 use Rattle.vod_thin_code.specs.Bytes.{IsHead}
 use Rattle.vod_thin_code.specs.Held.{AreBatches, IsHeld}

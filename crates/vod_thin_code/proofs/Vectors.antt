@@ -5,10 +5,10 @@ use Rattle.std.specs.Int.{w32, w64, to_le_bytes, from_le_bytes}
 use Rattle.std.specs.List.{flat_map}
 use Rattle.std.proofs.lemmas.List.{drop-drop, length-map}
 use Rattle.std.proofs.lemmas.Nat.{from_le_bytes-to_le_bytes_4}
-use Rattle.vod_design.specs.declared.thin.Input.{Input}
-use Rattle.vod_design.specs.declared.thin.Move.{Move}
-use Rattle.vod_design.specs.declared.thin.Vector.{Vector}
-use Rattle.vod_design.specs.Netlist.{Netlist, IsAccepted, input_signals}
+use Rattle.vod_thin_design.specs.declared.thin.Input.{Input}
+use Rattle.vod_thin_design.specs.declared.thin.Move.{Move}
+use Rattle.vod_thin_design.specs.declared.thin.Vector.{Vector}
+use Rattle.vod_thin_design.specs.Netlist.{Netlist, IsAccepted, input_signals}
 use Rattle.vod_thin_code.specs.Bytes.{move_bytes, vector_bytes, IsInForm}
 use Rattle.vod_thin_code.specs.Moves.{moves_at}
 use Rattle.vod_thin_code.proofs.Assignments.{InOrder, AreMovesAt, moves_sound, moves_complete, rises, once, within, known, in_order}

@@ -1,9 +1,9 @@
 -- Assignments, read from bytes one by one.
 use Rattle.std.specs.Prelude.{ℕ, zero, suc, ◌+◌, ◌==◌, ◌&&◌, nat_le, nat_lt, List, [], ◌∷◌, take, drop, Option, None, Some, if◌then◌else◌}
 use Rattle.std.specs.Int.{w32, w64, from_le_bytes}
-use Rattle.vod_design.specs.declared.thin.Bit.{Bit}
-use Rattle.vod_design.specs.declared.thin.Bit.TheVariants.{Zero, One}
-use Rattle.vod_design.specs.declared.thin.Move.{Move}
+use Rattle.vod_thin_design.specs.declared.thin.Bit.{Bit}
+use Rattle.vod_thin_design.specs.declared.thin.Bit.TheVariants.{Zero, One}
+use Rattle.vod_thin_design.specs.declared.thin.Move.{Move}
 
 -- the value of a number that isn't above 1
 abbrev pub bit_of : ℕ → Bit

@@ -8,8 +8,8 @@ ghost use Rattle.vod_thin_code.specs.Held.{head_header, batch_header};
 use crate::Memory;
 use std::alloc::Global;
 use std::marker::Model;
-use vod_design::thin::{Bit, Move, Vector};
 use vod_log::{Counts, Header, Kind};
+use vod_thin_design::{Bit, Move, Vector};
 
 // The number of a value.
 fn number(value: Bit) -> u64

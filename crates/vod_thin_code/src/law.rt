@@ -1,7 +1,7 @@
 //! Laws of the bytes of records.
 ghost use Rattle.std.specs.Prelude.{◌≡◌, ℕ, ◌+◌, ◌*◌, ◌<◌, ◌≤◌, ◌^◌, true, List, ◌++◌, length, take, slice_index, All, IfSome, ◌-◌};
-ghost use Rattle.vod_design.specs.declared.thin.Vector.{Vector};
-ghost use Rattle.vod_design.specs.Netlist.{Netlist, IsAccepted};
+ghost use Rattle.vod_thin_design.specs.declared.thin.Vector.{Vector};
+ghost use Rattle.vod_thin_design.specs.Netlist.{Netlist, IsAccepted};
 ghost use Rattle.vod_log.specs.declared.header.Header.{Header};
 ghost use Rattle.vod_log.specs.Format.{begins_header, entry_of};
 ghost use Rattle.vod_log.specs.Tail.{frame_header};

@@ -2,12 +2,12 @@
 ghost use Rattle.std.specs.Prelude.{◌≡◌, ℕ, ◌*◌, ◌++◌, List, IfOk, MatchOption, ◌≤◌, length, take};
 ghost use Rattle.std.specs.Int.{w32, w64, from_le_bytes};
 ghost use Rattle.std.specs.Option.{option_map};
-ghost use Rattle.vod_design.specs.declared.thin.Vector.{Vector};
+ghost use Rattle.vod_thin_design.specs.declared.thin.Vector.{Vector};
 ghost use Rattle.vod_thin_code.specs.Bytes.{IsHead, IsInForm, vector_bytes};
 ghost use Rattle.vod_thin_code.specs.Moves.{bit_of, move_of, move_at, moves_at};
 
 use std::alloc::{AllocError, Global};
-use vod_design::thin::{Bit, Design, Move, Moves, Vector};
+use vod_thin_design::{Bit, Design, Move, Moves, Vector};
 
 // The number of the first four bytes.
 fn four(bytes: &[u8]) -> u32

@@ -3,9 +3,9 @@ use Rattle.std.proofs.Common.{◌≡◌, ℕ, zero, suc, ◌+◌, ◌<◌, ◌�
 use Rattle.std.specs.Prelude.{Bool, true, false, nat_lt, if◌then◌else◌}
 use Rattle.std.proofs.lemmas.Bool.Decides.{nat_tests}
 use Rattle.std.proofs.lemmas.List.{length-map}
-use Rattle.vod_design.specs.declared.thin.Vector.{Vector}
-use Rattle.vod_design.specs.Netlist.{Netlist}
-use Rattle.vod_design.specs.Vectors.{IsVector, IsLawful, times, last_time}
+use Rattle.vod_thin_design.specs.declared.thin.Vector.{Vector}
+use Rattle.vod_thin_design.specs.Netlist.{Netlist}
+use Rattle.vod_thin_design.specs.Vectors.{IsVector, IsLawful, times, last_time}
 use Rattle.vod_log.specs.Format.{Entry}
 use Rattle.vod_thin_code.specs.Bytes.{batch_bytes, IsInForm, IsHead}
 use Rattle.vod_thin_code.specs.Held.{IsBatch, AreBatches, IsSound}

@@ -1,8 +1,8 @@
 -- The first damaged record of a log is one, and none is where all is read.
 use Rattle.std.proofs.Common.{◌≡◌, ℕ, List, [], ◌∷◌, ◌++◌, refl, sym, ap, ◌∙◌, subst, inl, inr, ◌⊎◌}
-use Rattle.vod_design.specs.declared.thin.Vector.{Vector}
-use Rattle.vod_design.specs.Netlist.{Netlist}
-use Rattle.vod_design.specs.Vectors.{IsLawful}
+use Rattle.vod_thin_design.specs.declared.thin.Vector.{Vector}
+use Rattle.vod_thin_design.specs.Netlist.{Netlist}
+use Rattle.vod_thin_design.specs.Vectors.{IsLawful}
 use Rattle.vod_log.specs.Format.{Entry}
 use Rattle.vod_thin_code.specs.Held.{IsBatch, AreBatches}
 use Rattle.vod_thin_script.proofs.Lawful.{lawful_front}

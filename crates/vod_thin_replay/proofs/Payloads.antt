@@ -3,9 +3,9 @@ use Rattle.std.proofs.Common.{◌≡◌, ℕ, ◌<◌, ◌^◌, List, [], ◌∷
 use Rattle.std.specs.Prelude.{true, false, ◌==◌}
 use Rattle.std.proofs.lemmas.Grind.{flat_map-append}
 use Rattle.std.proofs.lemmas.List.Elements.{All-nil, All-push, All-head, All-tail}
-use Rattle.vod_design.specs.declared.thin.Vector.{Vector}
-use Rattle.vod_design.specs.Netlist.{Netlist}
-use Rattle.vod_design.specs.Vectors.{IsLawful}
+use Rattle.vod_thin_design.specs.declared.thin.Vector.{Vector}
+use Rattle.vod_thin_design.specs.Netlist.{Netlist}
+use Rattle.vod_thin_design.specs.Vectors.{IsLawful}
 use Rattle.vod_thin_code.specs.Bytes.{vector_bytes, batch_bytes, IsInForm}
 use Rattle.vod_thin_code.proofs.Batches.{same_vector}
 use Rattle.vod_thin_script.proofs.Lawful.{lawful_front}

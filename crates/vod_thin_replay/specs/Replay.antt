@@ -1,8 +1,8 @@
 -- The source and the vectors of a log that was opened.
 use Rattle.std.specs.Prelude.{◌≡◌, ℕ, ◌+◌, ◌<◌, ◌≤◌, ◌^◌, ◌⊎◌, nat_lt, if◌then◌else◌, List, [], ◌∷◌, ◌++◌, length, drop, All}
-use Rattle.vod_design.specs.declared.thin.Vector.{Vector}
-use Rattle.vod_design.specs.Netlist.{Netlist}
-use Rattle.vod_design.specs.Vectors.{IsLawful, times, known_since, last_time}
+use Rattle.vod_thin_design.specs.declared.thin.Vector.{Vector}
+use Rattle.vod_thin_design.specs.Netlist.{Netlist}
+use Rattle.vod_thin_design.specs.Vectors.{IsLawful, times, known_since, last_time}
 use Rattle.vod_log.specs.declared.header.Header.{Header}
 use Rattle.vod_log.specs.declared.header.Kind.TheVariants.{Batch}
 use Rattle.vod_log.specs.declared.log.Record.{Record}

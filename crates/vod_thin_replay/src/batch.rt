@@ -1,14 +1,14 @@
 //! The vectors of one batch.
 ghost use Rattle.std.specs.Prelude.{◌≡◌, ◌<◌, ◌^◌, length, IfOk, IfErr, OnOk, IsErrOf, IsTrue, ◌↔◌, MatchBool};
-ghost use Rattle.vod_design.specs.Vectors.{IsLawful};
+ghost use Rattle.vod_thin_design.specs.Vectors.{IsLawful};
 ghost use Rattle.vod_thin_replay.specs.Replay.{OnDamaged, IsDamagedBehind, AddsPayload, AddsBatch, IsUnlawful, IsHeaded};
 ghost use Rattle.vod_thin_replay.specs.declared.ReplayFault.TheVariants.{Deck as DeckFault};
 
 use crate::ReplayFault;
 use std::alloc::{AllocError, Global};
-use vod_design::thin::Design;
 use vod_log::{Header, Kind, Record};
 use vod_thin_code::{one_batch, read_vector};
+use vod_thin_design::Design;
 use vod_thin_script::{AddFault, History};
 
 // Adds the vectors of a record with this payload to those before it. It is damaged where it is no

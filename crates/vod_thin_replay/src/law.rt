@@ -1,7 +1,7 @@
 //! What a sound log answers.
 ghost use Rattle.std.specs.Prelude.{◌≡◌, ℕ, List};
-ghost use Rattle.vod_design.specs.declared.thin.Vector.{Vector};
-ghost use Rattle.vod_design.specs.Netlist.{Netlist, IsAccepted};
+ghost use Rattle.vod_thin_design.specs.declared.thin.Vector.{Vector};
+ghost use Rattle.vod_thin_design.specs.Netlist.{Netlist, IsAccepted};
 ghost use Rattle.vod_thin_code.specs.Held.{IsSound};
 ghost use Rattle.vod_thin_replay.specs.Replay.{IsHeadDamagedAt, IsDamagedAt, IsReadUpTo, IsDamagedUpTo};
 

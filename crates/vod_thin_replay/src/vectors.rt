@@ -11,9 +11,9 @@ use crate::batch::add_batch;
 use crate::source::read_payload;
 use std::alloc::Global;
 use vod_deck::Deck;
-use vod_design::thin::Design;
 use vod_log::{Bytes, Log, Record};
 use vod_thin_code::one_batch;
+use vod_thin_design::Design;
 use vod_thin_script::History;
 
 /// The vectors of a log's batches, up to the batch that reaches a time: as far as the one whose

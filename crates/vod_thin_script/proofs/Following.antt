@@ -6,15 +6,15 @@ use Rattle.std.proofs.Math.Seq.{take-append_seam, get_or-append_seam}
 use Rattle.std.proofs.lemmas.List.{ext_get_or, get_or-replicate, length-replicate}
 use Rattle.std.proofs.lemmas.List.Elements.{All-head, All-tail, All-nil, All-append, All-weaker}
 use Rattle.std.specs.List.{list_all, enumerate_from, zip}
-use Rattle.vod_design.specs.declared.thin.Bit.{Bit}
-use Rattle.vod_design.specs.declared.thin.Bit.TheVariants as bit
-use Rattle.vod_design.specs.declared.thin.Class.TheVariants.{Clock, Data}
-use Rattle.vod_design.specs.declared.thin.Input.{Input}
-use Rattle.vod_design.specs.declared.thin.Move.{Move}
-use Rattle.vod_design.specs.declared.thin.Vector.{Vector}
-use Rattle.vod_design.specs.Bits.{is_known}
-use Rattle.vod_design.specs.Netlist.{Netlist, has, is_clock}
-use Rattle.vod_design.specs.Vectors.{IsVector, IsLawful, assigned, is_unmixed, has_data, gives_data, gives_all, known_since_after}
+use Rattle.vod_thin_design.specs.declared.thin.Bit.{Bit}
+use Rattle.vod_thin_design.specs.declared.thin.Bit.TheVariants as bit
+use Rattle.vod_thin_design.specs.declared.thin.Class.TheVariants.{Clock, Data}
+use Rattle.vod_thin_design.specs.declared.thin.Input.{Input}
+use Rattle.vod_thin_design.specs.declared.thin.Move.{Move}
+use Rattle.vod_thin_design.specs.declared.thin.Vector.{Vector}
+use Rattle.vod_thin_design.specs.Bits.{is_known}
+use Rattle.vod_thin_design.specs.Netlist.{Netlist, has, is_clock}
+use Rattle.vod_thin_design.specs.Vectors.{IsVector, IsLawful, assigned, is_unmixed, has_data, gives_data, gives_all, known_since_after}
 use Rattle.vod_thin_script.specs.Held.{value_from, AreValues, written, given, suits, are_unmixed, opens, comes_after, may_follow, known_after}
 use Rattle.vod_thin_script.specs.History.{IsHistory}
 use Rattle.vod_thin_script.specs.Reading.{IsMove}

@@ -4,14 +4,14 @@ use Rattle.std.proofs.lemmas.Bool.{cases_eq, ne_eqb}
 use Rattle.std.proofs.lemmas.Bool.Decides.{Decides-eqb}
 use Rattle.std.proofs.lemmas.List.Elements.{All-head, All-tail}
 use Rattle.std.specs.List.{list_all, enumerate_from}
-use Rattle.vod_design.specs.declared.thin.Bit.{Bit}
-use Rattle.vod_design.specs.declared.thin.Bit.TheVariants as bit
-use Rattle.vod_design.specs.declared.thin.Class.{Class}
-use Rattle.vod_design.specs.declared.thin.Input.{Input}
-use Rattle.vod_design.specs.declared.thin.Move.{Move}
-use Rattle.vod_design.specs.Bits.{same_bit, is_known}
-use Rattle.vod_design.specs.Netlist.{Netlist}
-use Rattle.vod_design.specs.Vectors.{holds, changes, has_class}
+use Rattle.vod_thin_design.specs.declared.thin.Bit.{Bit}
+use Rattle.vod_thin_design.specs.declared.thin.Bit.TheVariants as bit
+use Rattle.vod_thin_design.specs.declared.thin.Class.{Class}
+use Rattle.vod_thin_design.specs.declared.thin.Input.{Input}
+use Rattle.vod_thin_design.specs.declared.thin.Move.{Move}
+use Rattle.vod_thin_design.specs.Bits.{same_bit, is_known}
+use Rattle.vod_thin_design.specs.Netlist.{Netlist}
+use Rattle.vod_thin_design.specs.Vectors.{holds, changes, has_class}
 use Rattle.vod_thin_script.specs.Held.{value_from, AreValues, written, leaves, same_class, is_of, change_only}
 use Rattle.vod_thin_script.specs.Reading.{IsMove}
 

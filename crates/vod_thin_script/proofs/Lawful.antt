@@ -6,11 +6,11 @@ use Rattle.std.proofs.lemmas.List.Elements.{All-push, All-nil, All-cons, All-hea
 use Rattle.std.proofs.Math.ListN.{get_or-append}
 use Rattle.std.proofs.Math.Seq.{get_or-append_seam}
 use Rattle.std.specs.List.Sorted.{IsStrictlyIncreasing}
-use Rattle.vod_design.specs.declared.thin.Move.{Move}
-use Rattle.vod_design.specs.declared.thin.Vector.{Vector}
-use Rattle.vod_design.specs.Netlist.{Netlist}
+use Rattle.vod_thin_design.specs.declared.thin.Move.{Move}
+use Rattle.vod_thin_design.specs.declared.thin.Vector.{Vector}
+use Rattle.vod_thin_design.specs.Netlist.{Netlist}
 use Rattle.vod_thin_script.specs.Held.{given}
-use Rattle.vod_design.specs.Vectors.{IsVector, IsLawful, AreUnmixed, is_unmixed, times, has_data, gives_data, last_time, last_time_after}
+use Rattle.vod_thin_design.specs.Vectors.{IsVector, IsLawful, AreUnmixed, is_unmixed, times, has_data, gives_data, last_time, last_time_after}
 
 -- the last time stands last
 last_is : (t : ℕ) (vs : List Vector) (k : ℕ) → k + 1 ≡ length vs → last_time_after t vs ≡ get_or (times vs) k 0

@@ -10,10 +10,10 @@ use Rattle.std.proofs.lemmas.List.Folds.{list_any_none}
 use Rattle.std.specs.List.{position_or_len, list_any}
 use Rattle.std.specs.List.Sorted.{IsStrictlyIncreasing}
 use Rattle.std.specs.Str.{bytes_eq}
-use Rattle.vod_design.specs.declared.thin.Signal.{Signal}
-use Rattle.vod_design.specs.declared.thin.Input.{Input}
-use Rattle.vod_design.specs.Netlist.{Netlist, IsAccepted, input_signals}
-use Rattle.vod_design.specs.Names.{input_names, HasPlainNames}
+use Rattle.vod_thin_design.specs.declared.thin.Signal.{Signal}
+use Rattle.vod_thin_design.specs.declared.thin.Input.{Input}
+use Rattle.vod_thin_design.specs.Netlist.{Netlist, IsAccepted, input_signals}
+use Rattle.vod_thin_design.specs.Names.{input_names, HasPlainNames}
 
 -- a name's place among texts
 abbrev pub name_place : List ℕ → List (List ℕ) → Option ℕ

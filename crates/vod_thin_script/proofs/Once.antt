@@ -9,13 +9,13 @@ use Rattle.std.specs.List.{flat_map, All, AllPairs, Contains}
 use Rattle.std.specs.List.Sorted.{IsPermutation}
 use Rattle.std.specs.Str.Parse.{AllDigits, digits_value}
 use Rattle.std.specs.Char.{digit_value}
-use Rattle.vod_design.specs.declared.thin.Bit.{Bit}
-use Rattle.vod_design.specs.declared.thin.Bit.TheVariants as bit
-use Rattle.vod_design.specs.declared.thin.Move.{Move}
-use Rattle.vod_design.specs.declared.thin.Vector.{Vector}
-use Rattle.vod_design.specs.Netlist.{Netlist}
-use Rattle.vod_design.specs.Vectors.{IsVector, assigned}
-use Rattle.vod_design.specs.Names.{input_names, is_plain, HasPlainNames}
+use Rattle.vod_thin_design.specs.declared.thin.Bit.{Bit}
+use Rattle.vod_thin_design.specs.declared.thin.Bit.TheVariants as bit
+use Rattle.vod_thin_design.specs.declared.thin.Move.{Move}
+use Rattle.vod_thin_design.specs.declared.thin.Vector.{Vector}
+use Rattle.vod_thin_design.specs.Netlist.{Netlist}
+use Rattle.vod_thin_design.specs.Vectors.{IsVector, assigned}
+use Rattle.vod_thin_design.specs.Names.{input_names, is_plain, HasPlainNames}
 use Rattle.vod_thin_script.specs.Pieces.{Lacks, StopsAt}
 use Rattle.vod_thin_script.specs.Script.{IsLine, AreLines, IsScript, digit_of, assignment_text}
 use Rattle.vod_thin_script.specs.Reading.{IsMove, Assigns, IsValue}

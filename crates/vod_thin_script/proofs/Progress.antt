@@ -3,10 +3,10 @@ use Rattle.std.proofs.Common.{◌≡◌, ℕ, ◌+◌, ◌≤◌, ◌^◌, arith
 use Rattle.std.proofs.lemmas.Bool.Decides.{nat_tests}
 use Rattle.std.proofs.lemmas.List.Elements.{All-nil, All-cons}
 use Rattle.std.specs.List.Sorted.{IsStrictlyIncreasing}
-use Rattle.vod_design.specs.declared.thin.Vector.{Vector}
-use Rattle.vod_design.specs.Netlist.{Netlist}
-use Rattle.vod_design.specs.Vectors.{IsLawful, assigned}
-use Rattle.vod_design.specs.Names.{HasPlainNames}
+use Rattle.vod_thin_design.specs.declared.thin.Vector.{Vector}
+use Rattle.vod_thin_design.specs.Netlist.{Netlist}
+use Rattle.vod_thin_design.specs.Vectors.{IsLawful, assigned}
+use Rattle.vod_thin_design.specs.Names.{HasPlainNames}
 use Rattle.vod_thin_script.specs.Pieces.{Lacks}
 use Rattle.vod_thin_script.specs.Script.{IsLine, AreLines, IsWrongLine}
 use Rattle.vod_thin_script.specs.declared.line.LineFault.{LineFault}

@@ -1,10 +1,10 @@
 -- A script is refused at one line, and then isn't read.
 use Rattle.std.proofs.Common.{◌≡◌, ℕ, suc, ◌≤◌, arith, List, [], ◌∷◌, ◌++◌, length, refl, sym, ap, ◌∙◌, subst, inl, inr, append_assoc, append-nil, length-append}
 use Rattle.std.proofs.lemmas.Bool.{cases_lt}
-use Rattle.vod_design.specs.declared.thin.Vector.{Vector}
-use Rattle.vod_design.specs.Netlist.{Netlist}
-use Rattle.vod_design.specs.Vectors.{IsLawful}
-use Rattle.vod_design.specs.Names.{HasPlainNames}
+use Rattle.vod_thin_design.specs.declared.thin.Vector.{Vector}
+use Rattle.vod_thin_design.specs.Netlist.{Netlist}
+use Rattle.vod_thin_design.specs.Vectors.{IsLawful}
+use Rattle.vod_thin_design.specs.Names.{HasPlainNames}
 use Rattle.vod_thin_script.specs.Script.{AreLines, IsScript, IsWrongLine, IsRefused}
 use Rattle.vod_thin_script.proofs.Once.{lines_front}
 use Rattle.vod_thin_script.proofs.Lawful.{lawful_front}

@@ -1,6 +1,6 @@
 -- What a fault says of a script.
 use Rattle.std.specs.Prelude.{ℕ, List, ⊤}
-use Rattle.vod_design.specs.Netlist.{Netlist}
+use Rattle.vod_thin_design.specs.Netlist.{Netlist}
 use Rattle.vod_thin_script.specs.declared.ScriptFault.{ScriptFault}
 use Rattle.vod_thin_script.specs.declared.ScriptFault.TheVariants.{Refused, Memory}
 use Rattle.vod_thin_script.specs.declared.line.LineFault as line_fault

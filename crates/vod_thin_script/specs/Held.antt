@@ -1,15 +1,15 @@
 -- What inputs hold between the lines of a script.
 use Rattle.std.specs.Prelude.{◌≡◌, ℕ, ◌-◌, ◌^◌, ◌<◌, ◌==◌, ◌||◌, ◌&&◌, Bool, true, not, nat_eq, nat_lt, nat_le, List, [], ◌∷◌, ◌++◌, length, zip, Option, Some, None, slice_get, slice_set, if◌then◌else◌}
 use Rattle.std.specs.List.{list_all, list_any}
-use Rattle.vod_design.specs.declared.thin.Bit.{Bit}
-use Rattle.vod_design.specs.declared.thin.Bit.TheVariants.{Z}
-use Rattle.vod_design.specs.declared.thin.Class.{Class}
-use Rattle.vod_design.specs.declared.thin.Class.TheVariants.{Clock, Data}
-use Rattle.vod_design.specs.declared.thin.Input.{Input}
-use Rattle.vod_design.specs.declared.thin.Move.{Move}
-use Rattle.vod_design.specs.declared.thin.Vector.{Vector}
-use Rattle.vod_design.specs.Bits.{same_bit, is_known, value_at}
-use Rattle.vod_design.specs.Netlist.{is_clock}
+use Rattle.vod_thin_design.specs.declared.thin.Bit.{Bit}
+use Rattle.vod_thin_design.specs.declared.thin.Bit.TheVariants.{Z}
+use Rattle.vod_thin_design.specs.declared.thin.Class.{Class}
+use Rattle.vod_thin_design.specs.declared.thin.Class.TheVariants.{Clock, Data}
+use Rattle.vod_thin_design.specs.declared.thin.Input.{Input}
+use Rattle.vod_thin_design.specs.declared.thin.Move.{Move}
+use Rattle.vod_thin_design.specs.declared.thin.Vector.{Vector}
+use Rattle.vod_thin_design.specs.Bits.{same_bit, is_known, value_at}
+use Rattle.vod_thin_design.specs.Netlist.{is_clock}
 
 -- the value of an input behind some assignments, where it was this one before
 abbrev pub value_from : Bit → List Move → ℕ → Bit

@@ -1,9 +1,9 @@
 -- The vectors of a run so far.
 use Rattle.std.specs.Prelude.{◌≡◌, ℕ, List, [], length, Option}
-use Rattle.vod_design.specs.declared.thin.Bit.{Bit}
-use Rattle.vod_design.specs.declared.thin.Vector.{Vector}
-use Rattle.vod_design.specs.Netlist.{Netlist}
-use Rattle.vod_design.specs.Vectors.{IsLawful, known_since, last_time}
+use Rattle.vod_thin_design.specs.declared.thin.Bit.{Bit}
+use Rattle.vod_thin_design.specs.declared.thin.Vector.{Vector}
+use Rattle.vod_thin_design.specs.Netlist.{Netlist}
+use Rattle.vod_thin_design.specs.Vectors.{IsLawful, known_since, last_time}
 use Rattle.vod_thin_script.specs.Held.{AreValues, given}
 
 -- a design, and vectors of it

@@ -3,12 +3,12 @@ use Rattle.std.specs.Prelude.{◌≡◌, ℕ, ◌<◌, ◌^◌, List, [], ◌∷
 use Rattle.std.specs.List.Sorted.{IsPermutation, IsStrictlyIncreasing}
 use Rattle.std.specs.Str.Parse.{digits_value}
 use Rattle.vod_text.specs.Numeral.{IsDecimal}
-use Rattle.vod_design.specs.declared.thin.Bit.{Bit}
-use Rattle.vod_design.specs.declared.thin.Move.{Move}
-use Rattle.vod_design.specs.declared.thin.Vector.{Vector}
-use Rattle.vod_design.specs.Bits.{is_known}
-use Rattle.vod_design.specs.Netlist.{Netlist}
-use Rattle.vod_design.specs.Vectors.{IsVector, IsLawful, assigned}
+use Rattle.vod_thin_design.specs.declared.thin.Bit.{Bit}
+use Rattle.vod_thin_design.specs.declared.thin.Move.{Move}
+use Rattle.vod_thin_design.specs.declared.thin.Vector.{Vector}
+use Rattle.vod_thin_design.specs.Bits.{is_known}
+use Rattle.vod_thin_design.specs.Netlist.{Netlist}
+use Rattle.vod_thin_design.specs.Vectors.{IsVector, IsLawful, assigned}
 use Rattle.vod_thin_script.specs.Script.{IsLine, digit_of, assignment_text}
 
 -- `=VALUE`, where the value is 0 or 1

@@ -4,13 +4,13 @@ use Rattle.std.specs.List.{flat_map}
 use Rattle.std.specs.List.Sorted.{IsPermutation, IsStrictlyIncreasing}
 use Rattle.std.specs.Str.Parse.{digits_value}
 use Rattle.vod_text.specs.Numeral.{IsDecimal}
-use Rattle.vod_design.specs.declared.thin.Bit.{Bit}
-use Rattle.vod_design.specs.declared.thin.Bit.TheVariants as bit
-use Rattle.vod_design.specs.declared.thin.Move.{Move}
-use Rattle.vod_design.specs.declared.thin.Vector.{Vector}
-use Rattle.vod_design.specs.Netlist.{Netlist}
-use Rattle.vod_design.specs.Vectors.{IsLawful, assigned}
-use Rattle.vod_design.specs.Names.{input_names}
+use Rattle.vod_thin_design.specs.declared.thin.Bit.{Bit}
+use Rattle.vod_thin_design.specs.declared.thin.Bit.TheVariants as bit
+use Rattle.vod_thin_design.specs.declared.thin.Move.{Move}
+use Rattle.vod_thin_design.specs.declared.thin.Vector.{Vector}
+use Rattle.vod_thin_design.specs.Netlist.{Netlist}
+use Rattle.vod_thin_design.specs.Vectors.{IsLawful, assigned}
+use Rattle.vod_thin_design.specs.Names.{input_names}
 
 -- the digit of a bit
 abbrev pub digit_of : Bit → ℕ

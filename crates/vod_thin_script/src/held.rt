@@ -1,12 +1,12 @@
 //! What the inputs of a design hold between the lines of a script, and which vectors may come next.
 ghost use Rattle.std.specs.Prelude.{◌≡◌, ◌<◌, ◌==◌, ◌||◌, not, length, replicate, zip, slice_get, All};
 ghost use Rattle.std.specs.List.{list_all, list_any};
-ghost use Rattle.vod_design.specs.Netlist.{is_clock};
-ghost use Rattle.vod_design.specs.declared.thin.Bit.TheVariants.{Z};
-ghost use Rattle.vod_design.specs.Bits as bits;
+ghost use Rattle.vod_thin_design.specs.Netlist.{is_clock};
+ghost use Rattle.vod_thin_design.specs.declared.thin.Bit.TheVariants.{Z};
+ghost use Rattle.vod_thin_design.specs.Bits as bits;
 ghost use Rattle.vod_thin_script.specs.Held.{written, leaves, same_class, is_of, change_only, are_unmixed, suits, opens};
 
-use vod_design::thin::{Bit, Class, Input, Move};
+use vod_thin_design::{Bit, Class, Input, Move};
 
 fn same_class(wanted: Class, class: Class) -> bool
     ensures { result ≡ same_class wanted class }

@@ -1,7 +1,7 @@
 //! The vectors of a run so far, and which may come next.
 ghost use Rattle.std.specs.Prelude.{◌≡◌, ◌<◌, [], ◌∷◌, ◌++◌, length, replicate, All, IfOk, OnOk, OnErr, IsErrOf};
-ghost use Rattle.vod_design.specs.declared.thin.Bit.TheVariants.{Z};
-ghost use Rattle.vod_design.specs.Vectors.{IsVector, IsLawful, known_since, last_time};
+ghost use Rattle.vod_thin_design.specs.declared.thin.Bit.TheVariants.{Z};
+ghost use Rattle.vod_thin_design.specs.Vectors.{IsVector, IsLawful, known_since, last_time};
 ghost use Rattle.vod_thin_script.specs.declared.history.AddFault.TheVariants.{Refused};
 ghost use Rattle.vod_thin_script.specs.Held as held;
 
@@ -9,8 +9,8 @@ use crate::held::{are_known, are_unmixed, may_begin, write};
 use std::alloc::{AllocError, AllocFailed, Global};
 use std::fmt;
 use std::marker::Model;
-use vod_design::thin::{Bit, Design, Input, Vector};
 use vod_io::MAX_TIME;
+use vod_thin_design::{Bit, Design, Input, Vector};
 
 /// Why a vector isn't added.
 #[derive(Clone, Copy, PartialEq, Eq)]
@@ -65,7 +65,7 @@ pub struct History<'d> {
 impl<'d> Model for History<'d> {
     ghost use Rattle.std.specs.Prelude.{◌≡◌};
     ghost use Rattle.vod_thin_script.specs.History.{Past, IsHistory};
-    ghost use Rattle.vod_design.specs.contracts.thin.Expr as e;
+    ghost use Rattle.vod_thin_design.specs.contracts.thin.Expr as e;
     ghost use Rattle.std.specs.Coded.{codes};
 
     ghost Value = { Past };

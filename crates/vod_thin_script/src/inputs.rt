@@ -1,12 +1,12 @@
 //! The inputs of a design, by name.
 
 ghost use Rattle.std.specs.Prelude.{◌≡◌, ◌<◌, [], length, slice_index_or, Contains, IfOk, IfNone, IfSome};
-ghost use Rattle.vod_design.specs.Names.{HasPlainNames, input_names};
+ghost use Rattle.vod_thin_design.specs.Names.{HasPlainNames, input_names};
 
 use indexmap::IndexSet;
 use std::alloc::{AllocError, Global};
 use std::marker::Model;
-use vod_design::thin::Design;
+use vod_thin_design::Design;
 
 /// The inputs of a design, which are found by their names.
 #[derive(Drop)]
@@ -17,9 +17,9 @@ pub struct Inputs<'a> {
 
 impl<'a> Model for Inputs<'a> {
     ghost use Rattle.std.specs.Prelude.{◌≡◌, ◌<◌, ◌^◌, map, length};
-    ghost use Rattle.vod_design.specs.Netlist.{Netlist};
-    ghost use Rattle.vod_design.specs.Names.{input_names};
-    ghost use Rattle.vod_design.specs.contracts.thin.Expr as e;
+    ghost use Rattle.vod_thin_design.specs.Netlist.{Netlist};
+    ghost use Rattle.vod_thin_design.specs.Names.{input_names};
+    ghost use Rattle.vod_thin_design.specs.contracts.thin.Expr as e;
     ghost use Rattle.std.specs.Coded.{codes};
 
     ghost Value = { Netlist };

@@ -1,10 +1,10 @@
 //! All lines of a script, in turn.
 ghost use Rattle.std.specs.Prelude.{◌≡◌, ℕ, ◌≤◌, ◌^◌, List, [], ◌++◌, ◌∷◌, length, All, IfOk, OnOk, IfErr};
 ghost use Rattle.std.specs.List.Sorted.{IsStrictlyIncreasing};
-ghost use Rattle.vod_design.specs.declared.thin.Vector.{Vector};
-ghost use Rattle.vod_design.specs.Netlist.{Netlist};
-ghost use Rattle.vod_design.specs.Names.{HasPlainNames};
-ghost use Rattle.vod_design.specs.Vectors.{IsLawful, assigned};
+ghost use Rattle.vod_thin_design.specs.declared.thin.Vector.{Vector};
+ghost use Rattle.vod_thin_design.specs.Netlist.{Netlist};
+ghost use Rattle.vod_thin_design.specs.Names.{HasPlainNames};
+ghost use Rattle.vod_thin_design.specs.Vectors.{IsLawful, assigned};
 ghost use Rattle.vod_thin_script.specs.Script.{IsLine, AreLines, IsScript, IsRefused};
 ghost use Rattle.vod_thin_script.specs.Reading.{AddsLine};
 ghost use Rattle.vod_thin_script.specs.Fault.{IsFault, IsLineFault};
@@ -15,7 +15,7 @@ use crate::inputs::Inputs;
 use crate::line::{LineFault, read_line};
 use crate::pieces::{behind, cut};
 use std::alloc::Global;
-use vod_design::thin::Design;
+use vod_thin_design::Design;
 
 /// The most bytes of a script.
 const MAX_BYTES: usize = 1_048_576;

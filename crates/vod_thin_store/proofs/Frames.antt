@@ -2,7 +2,7 @@
 use Rattle.std.proofs.Common.{◌≡◌, ℕ, ◌<◌, ◌≤◌, ◌+◌, ◌^◌, arith, List, length, take, refl, sym, ap, subst, ◌∙◌, ◌-◌}
 use Rattle.std.specs.Prelude.{Bool, true, false, ◌==◌, ◌||◌, nat_le, nat_lt, Option, None, Some, is_none, IfSome, slice_index, if◌then◌else◌}
 use Rattle.std.proofs.lemmas.Bool.Decides.{nat_tests}
-use Rattle.vod_design.specs.declared.thin.Vector.{Vector}
+use Rattle.vod_thin_design.specs.declared.thin.Vector.{Vector}
 use Rattle.vod_log.specs.declared.header.Kind.TheVariants.{Batch}
 use Rattle.vod_log.specs.declared.header.Header.{Header}
 use Rattle.vod_log.specs.declared.header.Counts.{Counts}

@@ -1,8 +1,8 @@
 -- Logs that hold a head and batches, and one record more.
 use Rattle.std.proofs.Common.{◌≡◌, ℕ, zero, suc, ◌≤◌, ◌+◌, arith, List, [], ◌∷◌, ◌++◌, length, refl, ap, ◌∙◌, subst, All}
 use Rattle.std.specs.Prelude.{Bool, true, false, ◌==◌, nat_le, Option, None, Some, if◌then◌else◌}
-use Rattle.vod_design.specs.declared.thin.Vector.{Vector}
-use Rattle.vod_design.specs.Netlist.{Netlist}
+use Rattle.vod_thin_design.specs.declared.thin.Vector.{Vector}
+use Rattle.vod_thin_design.specs.Netlist.{Netlist}
 use Rattle.vod_log.specs.declared.header.Header.{Header}
 use Rattle.vod_log.specs.Format.{Entry, Reading, record_at, gate_read, reading, committed, entry_of}
 use Rattle.vod_log.specs.Tail.{frame_header, appended}

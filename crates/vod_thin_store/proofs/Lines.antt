@@ -8,7 +8,7 @@ use Rattle.std.proofs.lemmas.Bool.Decides.{nat_tests}
 use Rattle.std.proofs.lemmas.Fmt.{decimal_is_IsNumeral_wide, length-decimal-le}
 use Rattle.std.proofs.lemmas.List.{append-nil, append_cancel_left}
 use Rattle.std.proofs.Math.Nat.{pow-suc}
-use Rattle.vod_design.specs.declared.thin.Vector.{Vector}
+use Rattle.vod_thin_design.specs.declared.thin.Vector.{Vector}
 use Rattle.vod_thin_code.specs.Held.{ack, said_from, said}
 use Rattle.vod_thin_store.proofs.Cuts.{Lacks, lacks-append, lacks-not, cut-first}
 

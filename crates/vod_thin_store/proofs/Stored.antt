@@ -5,9 +5,9 @@ use Rattle.std.specs.List.Sorted.{IsStrictlyIncreasing}
 use Rattle.std.proofs.lemmas.List.{append-nil, map-append, take-append-drop, take_at}
 use Rattle.vod_deck.specs.Outcomes.{Outcome, View, From, Leaves}
 use Rattle.vod_deck.proofs.Leaves.{leaves-wider, leaves-then}
-use Rattle.vod_design.specs.declared.thin.Vector.{Vector}
-use Rattle.vod_design.specs.Netlist.{Netlist}
-use Rattle.vod_design.specs.Vectors.{IsVector, IsLawful, assigned, times, known_since, last_time}
+use Rattle.vod_thin_design.specs.declared.thin.Vector.{Vector}
+use Rattle.vod_thin_design.specs.Netlist.{Netlist}
+use Rattle.vod_thin_design.specs.Vectors.{IsVector, IsLawful, assigned, times, known_since, last_time}
 use Rattle.vod_log.specs.declared.header.Header.{Header}
 use Rattle.vod_log.specs.declared.header.Counts.{Counts}
 use Rattle.vod_log.specs.Format.{committed, follows}

@@ -1,8 +1,8 @@
 -- What is recorded of vectors, and what a crash leaves.
 use Rattle.std.specs.Prelude.{◌≡◌, ℕ, ◌≤◌, nat_le, List, ◌++◌, length, take, Option, None, Some, ◌⊎◌, if◌then◌else◌}
 use Rattle.vod_deck.specs.Outcomes.{Outcome, View, From, Leaves}
-use Rattle.vod_design.specs.declared.thin.Vector.{Vector}
-use Rattle.vod_design.specs.Netlist.{Netlist}
+use Rattle.vod_thin_design.specs.declared.thin.Vector.{Vector}
+use Rattle.vod_thin_design.specs.Netlist.{Netlist}
 use Rattle.vod_log.specs.declared.header.Header.{Header}
 use Rattle.vod_log.specs.Format.{Reading, committed, counts_of}
 use Rattle.vod_log.specs.Tail.{HoldsEither, IsSettled}

@@ -1,8 +1,8 @@
 //! What the record clause means for acknowledgements.
 ghost use Rattle.std.specs.Prelude.{◌≡◌, ℕ, ◌≤◌, List};
 ghost use Rattle.vod_deck.specs.Outcomes.{Outcome};
-ghost use Rattle.vod_design.specs.declared.thin.Vector.{Vector};
-ghost use Rattle.vod_design.specs.Netlist.{Netlist};
+ghost use Rattle.vod_thin_design.specs.declared.thin.Vector.{Vector};
+ghost use Rattle.vod_thin_design.specs.Netlist.{Netlist};
 ghost use Rattle.vod_thin_code.specs.Held.{Acknowledges};
 ghost use Rattle.vod_thin_store.specs.Stored.{HoldsFirst};
 

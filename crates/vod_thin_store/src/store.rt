@@ -3,7 +3,7 @@ ghost use Rattle.std.specs.Prelude.{◌≡◌, ℕ, ◌+◌, ◌*◌, ◌≤◌,
 ghost use Rattle.std.specs.List.Sorted.{IsStrictlyIncreasing};
 ghost use Rattle.vod_io.specs.Faults.{Rose};
 ghost use Rattle.vod_deck.specs.Outcomes.{Outcome, From, Only, Leaves};
-ghost use Rattle.vod_design.specs.Vectors.{IsLawful, assigned, known_since, last_time};
+ghost use Rattle.vod_thin_design.specs.Vectors.{IsLawful, assigned, known_since, last_time};
 ghost use Rattle.vod_log.specs.Tail.{IsSettled};
 ghost use Rattle.vod_thin_code.specs.Held.{said, IsHeld, IsSound};
 ghost use Rattle.vod_thin_store.specs.declared.StoreFault.TheVariants.{Deck as DeckFault, NotEmpty};
@@ -13,9 +13,9 @@ use crate::StoreFault;
 use crate::append::{append_head, commit};
 use std::alloc::Global;
 use vod_deck::Deck;
-use vod_design::thin::{Design, Vector};
 use vod_log::{Counts, Tail};
 use vod_thin_code::{Frame, batches_are_short, frames_are_records};
+use vod_thin_design::{Design, Vector};
 
 // A log has an image of the registers at each multiple of so many vectors.
 const INTERVAL: u32 = 4096;

@@ -5,13 +5,13 @@ use Rattle.std.proofs.lemmas.List.Elements.{filter-append}
 use Rattle.std.proofs.lemmas.Bool.{le-leb, leb-true}
 use Rattle.std.specs.List.Sorted.{IsStrictlyIncreasing}
 use Rattle.vod_io.specs.Told.{appended, Puts}
-use Rattle.vod_design.specs.declared.thin.Bit.{Bit}
-use Rattle.vod_design.specs.declared.thin.Vector.{Vector}
-use Rattle.vod_design.specs.Netlist.{Netlist, IsAccepted}
-use Rattle.vod_design.specs.Vectors.{times, IsLawful}
-use Rattle.vod_queue.specs.State.{State}
-use Rattle.vod_queue.specs.Run.{AreSlots, IsRun}
-use Rattle.vod_vcd.specs.Dump.{Moment, Change, Dump, is_empty, differing, slot_changes, overwritten, full_dump, cut, dump_text}
+use Rattle.vod_thin_design.specs.declared.thin.Bit.{Bit}
+use Rattle.vod_thin_design.specs.declared.thin.Vector.{Vector}
+use Rattle.vod_thin_design.specs.Netlist.{Netlist, IsAccepted}
+use Rattle.vod_thin_design.specs.Vectors.{times, IsLawful}
+use Rattle.vod_thin_queue.specs.State.{State}
+use Rattle.vod_thin_queue.specs.Run.{AreSlots, IsRun}
+use Rattle.vod_thin_vcd.specs.Dump.{Moment, Change, Dump, is_empty, differing, slot_changes, overwritten, full_dump, cut, dump_text}
 use Rattle.vod_thin_window.specs.Moments.{moments}
 use Rattle.vod_thin_window.specs.Progress.{IsOver}
 use Rattle.vod_thin_window.specs.Request.{Request, behind, window_of, IsWritten, IsBegun}

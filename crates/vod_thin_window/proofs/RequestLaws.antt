@@ -4,16 +4,16 @@ use Rattle.std.proofs.lemmas.List.Elements.{All-head, All-tail}
 use Rattle.std.specs.List.Sorted.{IsStrictlyIncreasing, IsNonDecreasing}
 use Rattle.vod_io.specs.Told.{appended, Puts, Written}
 use Rattle.vod_io.proofs.Puts.{Puts-start}
-use Rattle.vod_design.specs.declared.thin.Bit.{Bit}
-use Rattle.vod_design.specs.declared.thin.Vector.{Vector}
-use Rattle.vod_design.specs.Netlist.{Netlist}
-use Rattle.vod_design.specs.Vectors.{times, IsLawful, last_time, last_time_after}
-use Rattle.vod_queue.specs.State.{State, start_of}
-use Rattle.vod_queue.specs.Run.{Completes, AreSlots, IsRun}
-use Rattle.vod_vcd.specs.Text.{header_text}
-use Rattle.vod_vcd.specs.Dump.{Moment, full_dump, last_moment, cut, dump_text}
-use Rattle.vod_vcd.specs.Stream.{window_text}
-use Rattle.vod_vcd.proofs.Times.{IsNonDecreasing-from_increasing}
+use Rattle.vod_thin_design.specs.declared.thin.Bit.{Bit}
+use Rattle.vod_thin_design.specs.declared.thin.Vector.{Vector}
+use Rattle.vod_thin_design.specs.Netlist.{Netlist}
+use Rattle.vod_thin_design.specs.Vectors.{times, IsLawful, last_time, last_time_after}
+use Rattle.vod_thin_queue.specs.State.{State, start_of}
+use Rattle.vod_thin_queue.specs.Run.{Completes, AreSlots, IsRun}
+use Rattle.vod_thin_vcd.specs.Text.{header_text}
+use Rattle.vod_thin_vcd.specs.Dump.{Moment, full_dump, last_moment, cut, dump_text}
+use Rattle.vod_thin_vcd.specs.Stream.{window_text}
+use Rattle.vod_thin_vcd.proofs.Times.{IsNonDecreasing-from_increasing}
 use Rattle.vod_thin_window.specs.Moments.{moments}
 use Rattle.vod_thin_window.specs.Progress.{IsReady, Awaits}
 use Rattle.vod_thin_window.specs.Request.{Request, dump_of, window_of, IsWritten, IsBegun}

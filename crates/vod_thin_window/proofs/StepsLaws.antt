@@ -1,15 +1,15 @@
 -- Lists of events, one more at a time.
 use Rattle.std.proofs.Common.{◌≡◌, ℕ, ◌<◌, length, All, List, [], ◌∷◌, ◌++◌, refl, sym, ap, subst, ◌∙◌, IsTrue}
-use Rattle.vod_design.specs.Netlist.{Netlist, IsAccepted}
-use Rattle.vod_design.specs.declared.thin.Move.{Move}
+use Rattle.vod_thin_design.specs.Netlist.{Netlist, IsAccepted}
+use Rattle.vod_thin_design.specs.declared.thin.Move.{Move}
 use Rattle.std.proofs.lemmas.List.Elements.{All-nil, All-cons, All-head, All-tail}
-use Rattle.vod_design.specs.declared.thin.Vector.{Vector}
-use Rattle.vod_design.specs.Vectors.{IsVector, IsLawful, is_unmixed, assigned}
-use Rattle.vod_queue.specs.State.{State, start_of, opened, IsShaped, IsResting}
-use Rattle.vod_queue.specs.declared.event.Event.{Event}
-use Rattle.vod_queue.specs.Step.{is_allowed, after}
-use Rattle.vod_queue.specs.Choice.{Takes}
-use Rattle.vod_queue.specs.Run.{Steps, Completes, IsSlot, IsSettled, HasTaken, is_unmixed_from}
+use Rattle.vod_thin_design.specs.declared.thin.Vector.{Vector}
+use Rattle.vod_thin_design.specs.Vectors.{IsVector, IsLawful, is_unmixed, assigned}
+use Rattle.vod_thin_queue.specs.State.{State, start_of, opened, IsShaped, IsResting}
+use Rattle.vod_thin_queue.specs.declared.event.Event.{Event}
+use Rattle.vod_thin_queue.specs.Step.{is_allowed, after}
+use Rattle.vod_thin_queue.specs.Choice.{Takes}
+use Rattle.vod_thin_queue.specs.Run.{Steps, Completes, IsSlot, IsSettled, HasTaken, is_unmixed_from}
 use Rattle.vod_thin_window.specs.Progress.{IsReady, Awaits}
 
 steps_more : (d : Netlist) (s t : State) (events : List Event) (event : Event) → Steps d s events t → IsTrue (is_allowed t event) → Steps d s (events ++ event ∷ []) (after d t event)

@@ -1,13 +1,13 @@
 -- The window of a run, slot by slot.
 use Rattle.std.proofs.Common.{◌≡◌, ℕ, suc, ◌<◌, ◌≤◌, List, [], ◌∷◌, ◌++◌, Bool, true, false, cond, nat_le, Option, Result, IsErr, All, refl, sym, ap, subst, ◌∙◌, arith, append_assoc}
 use Rattle.std.proofs.lemmas.Bool.{le-leb, leb-true}
-use Rattle.vod_design.specs.declared.thin.Vector.{Vector}
-use Rattle.vod_design.specs.Netlist.{Netlist}
-use Rattle.vod_queue.specs.State.{State}
-use Rattle.vod_queue.specs.Run.{IsSlot, AreSlots}
-use Rattle.vod_vcd.specs.Text.{opening_text}
-use Rattle.vod_vcd.specs.Dump.{closing_text}
-use Rattle.vod_vcd.specs.Stream.{slot_text, printed_after, window_text, rest_text}
+use Rattle.vod_thin_design.specs.declared.thin.Vector.{Vector}
+use Rattle.vod_thin_design.specs.Netlist.{Netlist}
+use Rattle.vod_thin_queue.specs.State.{State}
+use Rattle.vod_thin_queue.specs.Run.{IsSlot, AreSlots}
+use Rattle.vod_thin_vcd.specs.Text.{opening_text}
+use Rattle.vod_thin_vcd.specs.Dump.{closing_text}
+use Rattle.vod_thin_vcd.specs.Stream.{slot_text, printed_after, window_text, rest_text}
 use Rattle.vod_io.specs.Told.{appended, Puts, Written}
 use Rattle.vod_io.proofs.Puts.{appended-nothing, appended-appended, Written-then, Written-stopped, stopped_in_first, stopped_in_second}
 use Rattle.vod_thin_window.specs.Moments.{moments}

@@ -1,8 +1,8 @@
 -- A run as the dump sees it.
 use Rattle.std.specs.Prelude.{List, [], ◌∷◌}
-use Rattle.vod_design.specs.declared.thin.Vector.{Vector}
-use Rattle.vod_queue.specs.State.{State}
-use Rattle.vod_vcd.specs.Dump.{Moment}
+use Rattle.vod_thin_design.specs.declared.thin.Vector.{Vector}
+use Rattle.vod_thin_queue.specs.State.{State}
+use Rattle.vod_thin_vcd.specs.Dump.{Moment}
 
 -- the values at the end of each vector's slot
 abbrev pub moments : List Vector → List State → List Moment

@@ -1,14 +1,14 @@
 -- A run as far as the program has taken it.
 use Rattle.std.specs.Prelude.{◌≡◌, ℕ, ◌<◌, List, ◌∷◌, ◌++◌, Option, All}
 use Rattle.vod_io.specs.Told.{appended}
-use Rattle.vod_design.specs.declared.thin.Move.{Move}
-use Rattle.vod_design.specs.declared.thin.Vector.{Vector}
-use Rattle.vod_design.specs.Netlist.{Netlist, IsAccepted}
-use Rattle.vod_design.specs.Vectors.{IsVector, AreUnmixed}
-use Rattle.vod_queue.specs.State.{State, IsShaped, IsResting}
-use Rattle.vod_queue.specs.Run.{IsSettled, AreSlots, HasTaken}
-use Rattle.vod_vcd.specs.Text.{opening_text}
-use Rattle.vod_vcd.specs.Stream.{window_text, rest_text}
+use Rattle.vod_thin_design.specs.declared.thin.Move.{Move}
+use Rattle.vod_thin_design.specs.declared.thin.Vector.{Vector}
+use Rattle.vod_thin_design.specs.Netlist.{Netlist, IsAccepted}
+use Rattle.vod_thin_design.specs.Vectors.{IsVector, AreUnmixed}
+use Rattle.vod_thin_queue.specs.State.{State, IsShaped, IsResting}
+use Rattle.vod_thin_queue.specs.Run.{IsSettled, AreSlots, HasTaken}
+use Rattle.vod_thin_vcd.specs.Text.{opening_text}
+use Rattle.vod_thin_vcd.specs.Stream.{window_text, rest_text}
 use Rattle.vod_thin_window.specs.Moments.{moments}
 
 -- the end of a slot of an accepted design

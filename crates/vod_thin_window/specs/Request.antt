@@ -1,11 +1,11 @@
 -- What the design and the script ask for, and its answer.
 use Rattle.std.specs.Prelude.{◌≡◌, ℕ, ◌≤◌, ◌^◌, List, ◌++◌, Option, length}
 use Rattle.vod_io.specs.Told.{appended, Puts}
-use Rattle.vod_design.specs.declared.thin.Vector.{Vector}
-use Rattle.vod_design.specs.Netlist.{Netlist}
-use Rattle.vod_queue.specs.State.{State}
-use Rattle.vod_queue.specs.Run.{IsRun}
-use Rattle.vod_vcd.specs.Dump.{full_dump, cut, dump_text}
+use Rattle.vod_thin_design.specs.declared.thin.Vector.{Vector}
+use Rattle.vod_thin_design.specs.Netlist.{Netlist}
+use Rattle.vod_thin_queue.specs.State.{State}
+use Rattle.vod_thin_queue.specs.Run.{IsRun}
+use Rattle.vod_thin_vcd.specs.Dump.{full_dump, cut, dump_text}
 use Rattle.vod_thin_window.specs.Moments.{moments}
 
 -- a source, its design, and its vectors

@@ -1,12 +1,12 @@
 //! A law of windows.
 ghost use Rattle.std.specs.Prelude.{ℕ, ◌≤◌, ◌++◌, List, Option};
-ghost use Rattle.vod_design.specs.declared.thin.Vector.{Vector};
-ghost use Rattle.vod_design.specs.Netlist.{IsAccepted};
-ghost use Rattle.vod_design.specs.Vectors.{IsLawful};
+ghost use Rattle.vod_thin_design.specs.declared.thin.Vector.{Vector};
+ghost use Rattle.vod_thin_design.specs.Netlist.{IsAccepted};
+ghost use Rattle.vod_thin_design.specs.Vectors.{IsLawful};
 ghost use Rattle.vod_thin_window.specs.Progress.{IsOver};
 ghost use Rattle.vod_thin_window.specs.Request.{Request, window_of, behind, IsWritten, IsBegun};
 
-use vod_queue::orders_end;
+use vod_thin_queue::orders_end;
 
 /// Vectors past the end of a window change nothing of it.
 pub fn window_of_front()

@@ -1,15 +1,15 @@
 //! A run of the event queue, slot by slot.
 ghost use Rattle.std.specs.Prelude.{◌≡◌, ◌∷◌, [], List, IfOk};
-ghost use Rattle.vod_design.specs.declared.thin.Vector.{Vector};
-ghost use Rattle.vod_design.specs.Netlist.{IsAccepted};
-ghost use Rattle.vod_design.specs.Vectors.{IsLawful};
-ghost use Rattle.vod_queue.specs.State.{State, start_of};
-ghost use Rattle.vod_queue.specs.Run.{Completes, IsSlot};
+ghost use Rattle.vod_thin_design.specs.declared.thin.Vector.{Vector};
+ghost use Rattle.vod_thin_design.specs.Netlist.{IsAccepted};
+ghost use Rattle.vod_thin_design.specs.Vectors.{IsLawful};
+ghost use Rattle.vod_thin_queue.specs.State.{State, start_of};
+ghost use Rattle.vod_thin_queue.specs.Run.{Completes, IsSlot};
 ghost use Rattle.vod_thin_window.specs.Progress.{Awaits};
 
 use std::alloc::Global;
-use vod_design::thin::{Design, Vector};
-use vod_queue::{Memory, Queue, inputs_take_moves, orders_agree};
+use vod_thin_design::{Design, Vector};
+use vod_thin_queue::{Memory, Queue, inputs_take_moves, orders_agree};
 
 /// Takes events until nothing is left.
 fn settle(queue: &mut Queue<'_>)

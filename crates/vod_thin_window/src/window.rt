@@ -2,11 +2,11 @@
 ghost use Rattle.std.specs.Prelude.{◌≡◌, ◌≤◌, ◌+◌, ◌∷◌, ◌++◌, List, All, length, MatchOption, IfOk, OnOk, OnErr, Err};
 ghost use Rattle.vod_io.specs.Told.{Written};
 ghost use Rattle.vod_io.specs.Faults.{HasCause, Rose};
-ghost use Rattle.vod_design.specs.Netlist.{IsAccepted};
-ghost use Rattle.vod_design.specs.Vectors.{IsLawful, last_time};
-ghost use Rattle.vod_queue.specs.State.{State};
-ghost use Rattle.vod_queue.specs.Run.{AreSlots};
-ghost use Rattle.vod_vcd.specs.Stream.{window_text, rest_text};
+ghost use Rattle.vod_thin_design.specs.Netlist.{IsAccepted};
+ghost use Rattle.vod_thin_design.specs.Vectors.{IsLawful, last_time};
+ghost use Rattle.vod_thin_queue.specs.State.{State};
+ghost use Rattle.vod_thin_queue.specs.Run.{AreSlots};
+ghost use Rattle.vod_thin_vcd.specs.Stream.{window_text, rest_text};
 ghost use Rattle.vod_thin_window.specs.Moments.{moments};
 ghost use Rattle.vod_thin_window.specs.Request.{Request, dump_of, window_of, IsWritten, IsBegun};
 ghost use Rattle.vod_thin_window.specs.Progress.{Awaits, IsOver, Skips};
@@ -14,10 +14,10 @@ ghost use Rattle.vod_thin_window.specs.Progress.{Awaits, IsOver, Skips};
 use crate::run::{run_slot, started};
 use std::alloc::Global;
 use std::fmt;
-use vod_design::thin::{Design, Vector};
 use vod_io::{Failed, Sink};
-use vod_queue::{Queue, inputs_take_moves, orders_agree, orders_end};
-use vod_vcd::{Writer, window_is_cut};
+use vod_thin_design::{Design, Vector};
+use vod_thin_queue::{Queue, inputs_take_moves, orders_agree, orders_end};
+use vod_thin_vcd::{Writer, window_is_cut};
 
 /// A window of time, from one time to another, both in it.
 #[derive(Clone, Copy)]
@@ -55,24 +55,24 @@ impl From<Failed> for WindowFault {
     }
 }
 
-impl From<vod_queue::Memory> for WindowFault {
+impl From<vod_thin_queue::Memory> for WindowFault {
     ghost use Rattle.std.specs.Prelude.{◌≡◌};
     ghost use Rattle.vod_thin_window.specs.declared.window.WindowFault.TheVariants.{Memory};
 
     ghost from_gives = { λ _ fault. fault ≡ Memory };
 
-    fn from(_memory: vod_queue::Memory) -> WindowFault {
+    fn from(_memory: vod_thin_queue::Memory) -> WindowFault {
         WindowFault::Memory
     }
 }
 
-impl From<vod_vcd::Memory> for WindowFault {
+impl From<vod_thin_vcd::Memory> for WindowFault {
     ghost use Rattle.std.specs.Prelude.{◌≡◌};
     ghost use Rattle.vod_thin_window.specs.declared.window.WindowFault.TheVariants.{Memory};
 
     ghost from_gives = { λ _ fault. fault ≡ Memory };
 
-    fn from(_memory: vod_vcd::Memory) -> WindowFault {
+    fn from(_memory: vod_thin_vcd::Memory) -> WindowFault {
         WindowFault::Memory
     }
 }

@@ -1,7 +1,7 @@
 use Rattle.std.proofs.Common.{◌≡◌, length, ◌↔◌}
-use Rattle.vod_queue.specs.State.{IsResting}
-use Rattle.vod_queue.specs.Step.{choices_of}
-use Rattle.vod_queue.specs.Weight.{weight_of}
+use Rattle.vod_thin_queue.specs.State.{IsResting}
+use Rattle.vod_thin_queue.specs.Step.{choices_of}
+use Rattle.vod_thin_queue.specs.Weight.{weight_of}
 use Rattle.rows_thin.proofs.run.finish.Given as goal
 
 abbrev pub invariant-loop-choices : goal.invariant-loop-choices

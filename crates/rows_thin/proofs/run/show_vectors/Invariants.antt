@@ -1,5 +1,5 @@
 use Rattle.std.proofs.Common.{◌≡◌}
-use Rattle.vod_queue.specs.State.{IsResting}
+use Rattle.vod_thin_queue.specs.State.{IsResting}
 use Rattle.rows_thin.proofs.run.show_vectors.Given as goal
 
 abbrev pub invariant-loop-vector : goal.invariant-loop-vector

@@ -1,6 +1,6 @@
 use Rattle.std.proofs.Common.{◌≡◌, Err, refl, sym, ap, subst, ◌∙◌, [], List, ℕ}
 use Rattle.std.proofs.lemmas.Result.{err_from_is_err_and}
-use Rattle.vod_design.specs.Vectors.{IsLawful}
+use Rattle.vod_thin_design.specs.Vectors.{IsLawful}
 use Rattle.vod_thin_window.specs.Request.{dump_of, IsWritten, IsBegun}
 use Rattle.vod_program.specs.Answer.{Inputs, Output, DumpAnswers}
 use Rattle.vod_program.proofs.AnswerLaws.{no_design, no_vectors, no_dump, design_told, script_refused, asked, request, same_request}

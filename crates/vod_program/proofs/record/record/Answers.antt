@@ -1,6 +1,6 @@
 use Rattle.std.proofs.Common.{◌≡◌, ◌≤◌, ℕ, List, [], ◌∷◌, sym, subst}
 use Rattle.vod_deck.specs.Outcomes.{Outcome, View, From, Only, Leaves}
-use Rattle.vod_design.specs.Vectors.{IsLawful}
+use Rattle.vod_thin_design.specs.Vectors.{IsLawful}
 use Rattle.vod_thin_code.specs.Held.{IsSound, said}
 use Rattle.vod_thin_store.specs.Stored.{HasSaid, Records}
 use Rattle.vod_program.specs.Answer.{Inputs, Device, IsRecorded}

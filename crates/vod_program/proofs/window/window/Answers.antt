@@ -1,7 +1,7 @@
 use Rattle.std.proofs.Common.{◌≡◌, ◌≤◌, ◌∙◌, ℕ, Err, refl, ap, sym, subst, arith}
 use Rattle.std.proofs.lemmas.Result.{err_from_is_err_and}
 use Rattle.vod_deck.specs.Outcomes.{View}
-use Rattle.vod_design.specs.Netlist.{IsAccepted}
+use Rattle.vod_thin_design.specs.Netlist.{IsAccepted}
 use Rattle.vod_log.proofs.Opening.{unchanged-then}
 use Rattle.vod_thin_replay.specs.Replay.{HoldsSource, IsReadUpTo, IsHeldUpTo, IsDamagedAt, IsDamagedUpTo}
 use Rattle.vod_thin_window.specs.Request.{window_of, IsWritten, IsBegun}

@@ -1,7 +1,7 @@
 -- The inputs of a design are the ports of its module that are inputs.
 use Rattle.std.proofs.Common.{◌≡◌, ℕ, suc, ◌+◌, ◌≤◌, List, [], ◌∷◌, ◌++◌, Option, None, Some, length, map, refl, ◌∙◌, ap, arith}
 use Rattle.std.specs.List.{flat_map}
-use Rattle.vod_design.specs.Netlist.{Netlist}
+use Rattle.vod_thin_design.specs.Netlist.{Netlist}
 use Rattle.vod_thin_syntax.specs.Limit.{sooner, limit_of}
 use Rattle.vod_thin_syntax.specs.Names.{input_ports}
 use Rattle.vod_thin_syntax.specs.Syntax.{Name, Item, Wire, Register, Assign, Always, Port, printed}

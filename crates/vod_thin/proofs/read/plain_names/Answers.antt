@@ -1,6 +1,6 @@
 -- The design of a module without a fault is the one that is made of it.
 use Rattle.std.proofs.Common.{◌≡◌, ℕ, List, [], ◌∷◌, Option, None, Some, refl, sym, ◌∙◌, subst}
-use Rattle.vod_design.specs.Names.{HasPlainNames}
+use Rattle.vod_thin_design.specs.Names.{HasPlainNames}
 use Rattle.vod_thin_syntax.specs.Limit.{sooner, limit_of}
 use Rattle.vod_thin_syntax.specs.Syntax.{printed}
 use Rattle.vod_thin.specs.Rules.{least, faults}

@@ -2,7 +2,7 @@ use Rattle.std.proofs.Common.{◌≡◌, ◌∙◌, sym, ap, subst, List, ℕ, f
 use Rattle.std.specs.Prelude.{IfOk}
 use Rattle.std.proofs.lemmas.Result.{err_from_is_err_and}
 use Rattle.vod_token.specs.declared.Token.{Token}
-use Rattle.vod_design.specs.Names.{HasPlainNames}
+use Rattle.vod_thin_design.specs.Names.{HasPlainNames}
 use Rattle.vod_thin_syntax.specs.View.{module_of}
 use Rattle.vod_thin.specs.declared.fault.ThinFault.TheVariants.{Memory}
 use Rattle.vod_thin.specs.Faults.{IsFault}

@@ -3,7 +3,7 @@ use Rattle.std.specs.Prelude.{Some, None}
 use Rattle.std.specs.Int.{w32, from_le_bytes}
 use Rattle.std.specs.Option.{option_map}
 use Rattle.std.proofs.lemmas.List.{take_rest}
-use Rattle.vod_design.specs.declared.thin.Input.{Input}
+use Rattle.vod_thin_design.specs.declared.thin.Input.{Input}
 use Rattle.vod_thin_code.specs.Bytes.{vector_bytes}
 use Rattle.vod_thin_code.specs.Moves.{moves_at}
 use Rattle.vod_thin_code.proofs.Vectors.{few_inputs, no_count, no_room, no_moves, found}

@@ -1,7 +1,7 @@
 -- The next vector is added, or the payload is no lawful vectors in form.
 use Rattle.std.proofs.Common.{◌++◌, ◌∷◌, [], sym, ap, ◌∙◌, subst, Err}
-use Rattle.vod_design.specs.Netlist.{Netlist}
-use Rattle.vod_design.specs.Vectors.{IsLawful}
+use Rattle.vod_thin_design.specs.Netlist.{Netlist}
+use Rattle.vod_thin_design.specs.Vectors.{IsLawful}
 use Rattle.vod_thin_replay.proofs.Payloads.{added_more, unread, unadded}
 use Rattle.vod_thin_replay.proofs.batch.add_payload.Goals as goal
 

@@ -1,7 +1,7 @@
 -- A line is of one vector.
 use Rattle.std.proofs.Common.{◌≡◌, sym, ap, subst, Err, [], ◌∷◌, ◌++◌}
-use Rattle.vod_design.specs.Netlist.{Netlist}
-use Rattle.vod_design.specs.Vectors.{IsLawful}
+use Rattle.vod_thin_design.specs.Netlist.{Netlist}
+use Rattle.vod_thin_design.specs.Vectors.{IsLawful}
 use Rattle.std.proofs.lemmas.Result.{err_from_is_err_and}
 use Rattle.vod_thin_script.specs.declared.line.LineFault.TheVariants.{Refused}
 use Rattle.vod_thin_script.proofs.Progress.{vector_line, not_lawful}

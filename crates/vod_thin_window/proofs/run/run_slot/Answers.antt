@@ -1,6 +1,6 @@
 use Rattle.std.proofs.Common.{[]}
 use Rattle.std.proofs.lemmas.List.Elements.{All-head}
-use Rattle.vod_design.specs.Vectors.{IsVector}
+use Rattle.vod_thin_design.specs.Vectors.{IsVector}
 use Rattle.vod_thin_window.proofs.StepsLaws.{Goes, slot_from, unmixed_first, goes_on}
 use Rattle.vod_thin_window.proofs.run.run_slot.Goals as goal
 

@@ -1,5 +1,5 @@
 use Rattle.std.proofs.Common.{◌∙◌, subst}
-use Rattle.vod_queue.specs.Choice.{Takes}
+use Rattle.vod_thin_queue.specs.Choice.{Takes}
 use Rattle.vod_thin_window.proofs.StepsLaws.{leads_more}
 use Rattle.vod_thin_window.proofs.run.settle.Goals as goal
 

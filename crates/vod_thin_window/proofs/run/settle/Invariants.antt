@@ -1,5 +1,5 @@
 use Rattle.std.proofs.Common.{◌≡◌}
-use Rattle.vod_queue.specs.Weight.{weight_of}
+use Rattle.vod_thin_queue.specs.Weight.{weight_of}
 use Rattle.vod_thin_window.proofs.StepsLaws.{Leads}
 use Rattle.vod_thin_window.proofs.run.settle.Given as goal
 

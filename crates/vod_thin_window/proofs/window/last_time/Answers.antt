@@ -1,5 +1,5 @@
 use Rattle.std.proofs.Common.{ap, sym, ◌∙◌}
-use Rattle.vod_design.specs.Vectors.{last_time}
+use Rattle.vod_thin_design.specs.Vectors.{last_time}
 use Rattle.vod_thin_window.proofs.RequestLaws.{last_time_of}
 use Rattle.vod_thin_window.proofs.window.last_time.Goals as goal
 

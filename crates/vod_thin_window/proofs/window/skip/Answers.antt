@@ -1,8 +1,8 @@
 use Rattle.std.proofs.Common.{List, ◌∷◌, ◌∙◌, ◌≡◌, subst, sym}
-use Rattle.vod_design.specs.declared.thin.Vector.{Vector}
-use Rattle.vod_design.specs.Netlist.{Netlist}
-use Rattle.vod_queue.specs.State.{State}
-use Rattle.vod_queue.specs.Run.{IsSlot}
+use Rattle.vod_thin_design.specs.declared.thin.Vector.{Vector}
+use Rattle.vod_thin_design.specs.Netlist.{Netlist}
+use Rattle.vod_thin_queue.specs.State.{State}
+use Rattle.vod_thin_queue.specs.Run.{IsSlot}
 use Rattle.vod_thin_window.specs.Progress.{Awaits}
 use Rattle.vod_thin_window.proofs.StepsLaws.{awaits_one}
 use Rattle.vod_thin_window.proofs.WindowLaws.{passes_more, passes_over}

@@ -1,10 +1,10 @@
 use Rattle.vod_io.specs.Told.{appended, Puts}
-use Rattle.vod_vcd.specs.Stream.{slot_text, printed_after}
+use Rattle.vod_thin_vcd.specs.Stream.{slot_text, printed_after}
 use Rattle.std.proofs.Common.{List, ℕ, ◌∷◌, ◌∙◌, ◌≡◌, subst, sym, ap, arith}
-use Rattle.vod_design.specs.declared.thin.Vector.{Vector}
-use Rattle.vod_design.specs.Netlist.{Netlist}
-use Rattle.vod_queue.specs.State.{State}
-use Rattle.vod_queue.specs.Run.{IsSlot}
+use Rattle.vod_thin_design.specs.declared.thin.Vector.{Vector}
+use Rattle.vod_thin_design.specs.Netlist.{Netlist}
+use Rattle.vod_thin_queue.specs.State.{State}
+use Rattle.vod_thin_queue.specs.Run.{IsSlot}
 use Rattle.vod_thin_window.specs.Progress.{Awaits, Follows}
 use Rattle.vod_thin_window.proofs.StepsLaws.{awaits_one}
 use Rattle.vod_thin_window.proofs.WindowLaws.{follows_more, follows_close, follows_stops}

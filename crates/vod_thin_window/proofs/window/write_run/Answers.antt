@@ -1,9 +1,9 @@
 use Rattle.std.proofs.Common.{List, ℕ, ◌∙◌, ◌≡◌, ◌++◌, subst, sym, ap}
 use Rattle.vod_io.specs.Told.{appended, Puts, Written}
 use Rattle.vod_io.proofs.Puts.{Written-then, Written-stopped, stopped_in_first, stopped_in_second}
-use Rattle.vod_queue.specs.Run.{AreSlots}
-use Rattle.vod_vcd.specs.Text.{opening_text}
-use Rattle.vod_vcd.specs.Stream.{window_text, rest_text}
+use Rattle.vod_thin_queue.specs.Run.{AreSlots}
+use Rattle.vod_thin_vcd.specs.Text.{opening_text}
+use Rattle.vod_thin_vcd.specs.Stream.{window_text, rest_text}
 use Rattle.vod_thin_window.specs.Moments.{moments}
 use Rattle.vod_thin_window.proofs.window.write_run.Goals as goal
 

@@ -1,10 +1,10 @@
 use Rattle.std.proofs.Common.{◌++◌, subst, sym, ap, Result, Ok, Err, refl, OnErr}
 use Rattle.vod_io.specs.declared.Failed.{Failed}
 use Rattle.vod_io.specs.Told.{Written}
-use Rattle.vod_design.specs.Netlist.{Netlist}
-use Rattle.vod_queue.specs.Run.{AreSlots}
-use Rattle.vod_vcd.specs.Text.{header_text}
-use Rattle.vod_vcd.specs.Stream.{window_text}
+use Rattle.vod_thin_design.specs.Netlist.{Netlist}
+use Rattle.vod_thin_queue.specs.Run.{AreSlots}
+use Rattle.vod_thin_vcd.specs.Text.{header_text}
+use Rattle.vod_thin_vcd.specs.Stream.{window_text}
 use Rattle.vod_thin_window.specs.Moments.{moments}
 use Rattle.vod_thin_window.specs.Request.{Request, window_of}
 use Rattle.vod_thin_window.proofs.StepsLaws.{Goes}

@@ -1,7 +1,7 @@
 -- A vector that may follow is written over what the inputs have.
 use Rattle.std.proofs.Common.{◌≡◌, ◌∙◌, arith, sym, ap, length, true, List}
-use Rattle.vod_design.specs.declared.thin.Bit.{Bit}
-use Rattle.vod_design.specs.declared.thin.Vector.{Vector}
+use Rattle.vod_thin_design.specs.declared.thin.Bit.{Bit}
+use Rattle.vod_thin_design.specs.declared.thin.Vector.{Vector}
 use Rattle.vod_thin_script.specs.Held.{written, may_follow, known_after}
 use Rattle.vod_thin_script.proofs.Following.{history_fresh, follow_is, follows, lawful_follows, history_more, inputs_within, written_over, pushed_last}
 use Rattle.vod_thin_script.proofs.history.History.add.Goals as goal

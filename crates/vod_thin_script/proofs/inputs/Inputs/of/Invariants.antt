@@ -1,7 +1,7 @@
 -- The table has the names of the inputs so far.
 use Rattle.std.proofs.Common.{◌≡◌, List, ℕ, map, take}
 use Rattle.std.specs.Borrow.{Bor}
-use Rattle.vod_design.specs.Names.{input_names}
+use Rattle.vod_thin_design.specs.Names.{input_names}
 use Rattle.vod_thin_script.proofs.inputs.Inputs.of.Given as goal
 
 abbrev pub invariant-loop-input : goal.invariant-loop-input

@@ -1,5 +1,0 @@
-use Rattle.vod_queue.proofs.OneUpdate.{updates-add}
-use Rattle.vod_queue.proofs.updates.Updates.add.Goals as goal
-
-pub returns : goal.returns
-returns c = updates-add c.args.self.now _ _ c.args.block c.args.bit c.self.view_is c.requires.none c.write.ensures

@@ -1,0 +1,5 @@
+pub mod Bits
+pub mod Expr
+pub mod Netlist
+pub mod Vectors
+pub mod Names
