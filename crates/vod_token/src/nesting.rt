@@ -6,7 +6,7 @@ ghost use Rattle.vod_token.specs.Nesting.{symbol_effect, effect_of, changed, nes
 ghost use Rattle.vod_token.specs.Fault.{IsNestingFault};
 ghost use Rattle.vod_token.specs.Span.{LiesIn};
 
-use crate::symbol::{is_among, is_operator};
+use crate::symbol::is_operator;
 use crate::{LexFault, NESTING, Token, TokenKind};
 use std::alloc::{AllocError, Global};
 
@@ -19,12 +19,6 @@ pub(crate) enum Effect {
     Counts,
     Leaves,
 }
-
-const OPENING: [&str; 3] = ["(", "[", "{"];
-
-const CLOSING: [&str; 3] = [")", "]", "}"];
-
-const SEPARATORS: [&str; 2] = [",", ";"];
 
 // Refuses tokens that are nested too deep.
 pub(crate) fn check_nesting(alloc: Global, source: &[u8], tokens: &[Token]) -> Result<(), LexFault>
@@ -127,17 +121,17 @@ fn symbol_effect(text: &[u8]) -> Effect
 fn is_opening(text: &[u8]) -> bool
     ensures { result ≡ is_among (codes "(" ∷ codes "[" ∷ codes "{" ∷ []) text.now }
 {
-    is_among(&OPENING, text)
+    matches!(text, [b'(' | b'[' | b'{'])
 }
 
 fn is_closing(text: &[u8]) -> bool
     ensures { result ≡ is_among (codes ")" ∷ codes "]" ∷ codes "}" ∷ []) text.now }
 {
-    is_among(&CLOSING, text)
+    matches!(text, [b')' | b']' | b'}'])
 }
 
 fn is_separator(text: &[u8]) -> bool
     ensures { result ≡ is_among (codes "," ∷ codes ";" ∷ []) text.now }
 {
-    is_among(&SEPARATORS, text)
+    matches!(text, [b',' | b';'])
 }

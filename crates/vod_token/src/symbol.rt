@@ -1,59 +1,9 @@
 //! Symbols.
 
-ghost use Rattle.std.specs.Prelude.{◌≡◌, ◌≤◌, map, nat_eq, take, length};
-ghost use Rattle.std.specs.List.{list_any};
-ghost use Rattle.std.specs.Cmp.Lexicographic.{pointwise};
+ghost use Rattle.std.specs.Prelude.{◌≡◌, ◌≤◌, ◌∷◌, [], take, length};
 ghost use Rattle.vod_token.specs.Word.{is_among};
 ghost use Rattle.vod_token.specs.Form.{operators, marks};
 ghost use Rattle.vod_token.specs.Scan.{is_symbol, symbol_len};
-
-use crate::spellings;
-
-const OPERATORS: [&str; 27] = [
-    spellings::CASE_EQUAL,
-    spellings::CASE_NOT_EQUAL,
-    spellings::ARITHMETIC_LEFT,
-    spellings::ARITHMETIC_RIGHT,
-    spellings::EQUAL,
-    spellings::NOT_EQUAL,
-    spellings::LESS_EQUAL,
-    spellings::GREATER_EQUAL,
-    spellings::LOGICAL_AND,
-    spellings::LOGICAL_OR,
-    spellings::SHIFT_LEFT,
-    spellings::SHIFT_RIGHT,
-    spellings::BIT_NAND,
-    spellings::BIT_NOR,
-    spellings::BIT_XNOR,
-    spellings::XOR_NOT,
-    spellings::PLUS,
-    spellings::MINUS,
-    spellings::MULTIPLY,
-    spellings::LOGICAL_NOT,
-    spellings::BIT_NOT,
-    spellings::BIT_AND,
-    spellings::BIT_OR,
-    spellings::BIT_XOR,
-    spellings::LESS,
-    spellings::GREATER,
-    spellings::QUESTION,
-];
-
-const MARKS: [&str; 13] = [
-    spellings::COLON,
-    spellings::EQUALS,
-    spellings::OPEN_PAREN,
-    spellings::CLOSE_PAREN,
-    spellings::OPEN_BRACKET,
-    spellings::CLOSE_BRACKET,
-    spellings::OPEN_BRACE,
-    spellings::CLOSE_BRACE,
-    spellings::COMMA,
-    spellings::SEMICOLON,
-    spellings::PERIOD,
-    spellings::HASH,
-    spellings::EVENT_CONTROL,
-];
 
 // How long the longest symbol at the front is, 0 where there is none.
 pub(crate) fn symbol_len(bytes: &[u8]) -> usize
@@ -85,32 +35,67 @@ fn is_symbol(text: &[u8]) -> bool
     is_operator(text) || is_mark(text)
 }
 
+// Whether a text is an operator: by its length, and then by its first byte.
 pub(crate) fn is_operator(text: &[u8]) -> bool
     ensures { result ≡ is_among operators text.now }
 {
-    is_among(&OPERATORS, text)
+    match text {
+        [a] => is_operator_of_one(*a),
+        [a, b] => is_operator_of_two(*a, *b),
+        [a, b, c] => is_operator_of_three(*a, *b, *c),
+        _ => false,
+    }
+}
+
+fn is_operator_of_one(a: u8) -> bool
+    ensures { result ≡ is_among operators (a ∷ []) }
+{
+    matches!(
+        a,
+        b'+' | b'-' | b'*' | b'!' | b'~' | b'&' | b'|' | b'^' | b'<' | b'>' | b'?'
+    )
+}
+
+fn is_operator_of_two(a: u8, b: u8) -> bool
+    ensures { result ≡ is_among operators (a ∷ b ∷ []) }
+{
+    match a {
+        b'=' | b'!' => b == b'=',
+        b'<' => b == b'=' || b == b'<',
+        b'>' => b == b'=' || b == b'>',
+        b'&' => b == b'&',
+        b'|' => b == b'|',
+        b'~' => b == b'&' || b == b'|' || b == b'^',
+        b'^' => b == b'~',
+        _ => false,
+    }
+}
+
+fn is_operator_of_three(a: u8, b: u8, c: u8) -> bool
+    ensures { result ≡ is_among operators (a ∷ b ∷ c ∷ []) }
+{
+    match a {
+        b'=' | b'!' => b == b'=' && c == b'=',
+        b'<' => b == b'<' && c == b'<',
+        b'>' => b == b'>' && c == b'>',
+        _ => false,
+    }
 }
 
 fn is_mark(text: &[u8]) -> bool
     ensures { result ≡ is_among marks text.now }
 {
-    is_among(&MARKS, text)
+    match text {
+        [a] => is_mark_of_one(*a),
+        _ => false,
+    }
 }
 
-pub(crate) fn is_among(table: &[&str], text: &[u8]) -> bool
-    ensures { result ≡ is_among (map (λ t. t.now) table.now) text.now }
+fn is_mark_of_one(a: u8) -> bool
+    ensures { result ≡ is_among marks (a ∷ []) }
 {
-    any(table, text)
-}
-
-fn any(table: &[&str], text: &[u8]) -> bool
-    ensures { result ≡ list_any (λ t. pointwise nat_eq t.now text.now) table.now }
-{
-    table.iter().any(|t| is_text(t, text))
-}
-
-fn is_text(entry: &str, text: &[u8]) -> bool
-    ensures { result ≡ pointwise nat_eq entry.now text.now }
-{
-    entry.as_bytes() == text
+    matches!(
+        a,
+        b':' | b'=' | b'(' | b')' | b'[' | b']' | b'{' | b'}' | b',' | b';' | b'.' | b'#' | b'@'
+    )
 }
