@@ -1,4 +1,4 @@
-//! How the reserved words that the grammar uses, the marks and the operators are spelled, each once (IEEE 1364-2005, 2.5 and 3.7.2).
+//! How the reserved words and the symbols that readers ask for are spelled (IEEE 1364-2005, 2.5 and 3.7.2).
 
 // The reserved words.
 
@@ -100,59 +100,11 @@ pub const HASH: &str = "#";
 /// The mark `@`.
 pub const EVENT_CONTROL: &str = "@";
 
-// The operators.
+// The operators that stand in statements too.
 
-/// The operator `===`.
-pub const CASE_EQUAL: &str = "===";
-/// The operator `!==`.
-pub const CASE_NOT_EQUAL: &str = "!==";
-/// The operator `<<<`.
-pub const ARITHMETIC_LEFT: &str = "<<<";
-/// The operator `>>>`.
-pub const ARITHMETIC_RIGHT: &str = ">>>";
-/// The operator `==`.
-pub const EQUAL: &str = "==";
-/// The operator `!=`.
-pub const NOT_EQUAL: &str = "!=";
 /// The operator `<=`.
 pub const LESS_EQUAL: &str = "<=";
-/// The operator `>=`.
-pub const GREATER_EQUAL: &str = ">=";
-/// The operator `&&`.
-pub const LOGICAL_AND: &str = "&&";
-/// The operator `||`.
-pub const LOGICAL_OR: &str = "||";
-/// The operator `<<`.
-pub const SHIFT_LEFT: &str = "<<";
-/// The operator `>>`.
-pub const SHIFT_RIGHT: &str = ">>";
-/// The operator `~&`.
-pub const BIT_NAND: &str = "~&";
-/// The operator `~|`.
-pub const BIT_NOR: &str = "~|";
-/// The operator `~^`.
-pub const BIT_XNOR: &str = "~^";
-/// The operator `^~`.
-pub const XOR_NOT: &str = "^~";
 /// The operator `+`.
 pub const PLUS: &str = "+";
-/// The operator `-`.
-pub const MINUS: &str = "-";
-/// The operator `*`.
-pub const MULTIPLY: &str = "*";
-/// The operator `!`.
-pub const LOGICAL_NOT: &str = "!";
-/// The operator `~`.
-pub const BIT_NOT: &str = "~";
-/// The operator `&`.
-pub const BIT_AND: &str = "&";
-/// The operator `|`.
-pub const BIT_OR: &str = "|";
-/// The operator `^`.
-pub const BIT_XOR: &str = "^";
 /// The operator `<`.
 pub const LESS: &str = "<";
-/// The operator `>`.
-pub const GREATER: &str = ">";
-/// The operator `?`.
-pub const QUESTION: &str = "?";
