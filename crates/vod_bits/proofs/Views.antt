@@ -1,9 +1,10 @@
 -- What the fields of values tell of them.
-use Rattle.std.proofs.Common.{◌≡◌, ℕ, suc, ◌+◌, ◌-◌, ◌*◌, ◌%◌, ◌^◌, ◌<◌, ◌≤◌, bit_or, List, length, sym, ◌∙◌, ap, arith, pow_pos, pow-add, mod-eq_of_lt, add_comm}
+use Rattle.std.proofs.Common.{◌≡◌, ℕ, suc, ◌+◌, ◌-◌, ◌*◌, ◌%◌, ◌^◌, ◌<◌, ◌≤◌, bit_or, Bool, true, false, List, [], ◌∷◌, length, refl, sym, ◌∙◌, ap, arith, pow_pos, pow-add, mod-eq_of_lt, add_comm}
 use Rattle.std.proofs.lemmas.Nat.{or_shifted, shl_whole, mul-add-lt}
 use Rattle.std.proofs.lemmas.Nat.Bits.{bit_at_cat_low}
-use Rattle.vod_bits.specs.Bit.{Bit}
-use Rattle.vod_bits.specs.Value.{bits_of, number_of, digit_bit, zip_with}
+use Rattle.std.specs.Int.{from_bool}
+use Rattle.vod_bits.specs.Bit.{Bit, bit_if}
+use Rattle.vod_bits.specs.Value.{bits_from, bits_of, number_of, digit_bit, zip_with}
 use Rattle.vod_bits.specs.Fields.{number-of_bits, length-bits_from}
 use Rattle.vod_bits.proofs.Places.{bits_from-same}
 use Rattle.vod_bits.proofs.Numbers.{low-bits}
@@ -13,6 +14,11 @@ length-view w x s e = sym (ap length e) ∙ length-bits_from _ w
 
 pub number-view : (w x : ℕ) (s : List Bit) → x < 2 ^ w → bits_of w x ≡ s → number_of s ≡ x
 number-view w x s h e = sym (ap number_of e) ∙ number-of_bits w x ∙ mod-eq_of_lt h
+
+pub one_bit-view : (b : Bool) (n : ℕ) → n ≡ from_bool b → bits_of 1 n ≡ bit_if b ∷ []
+unfolding bits_from
+one_bit-view true n e = rw e refl
+one_bit-view false n e = rw e refl
 
 pub widths-view : (v w x y : ℕ) (s o : List Bit) → bits_of v x ≡ s → bits_of w y ≡ o → length s ≡ length o → v ≡ w
 widths-view v w x y s o p q e = sym (length-view v x s p) ∙ e ∙ length-view w y o q

@@ -3,7 +3,7 @@
 
 mod word;
 
-ghost use Rattle.std.specs.Prelude.{◌≡◌, ◌+◌, ◌-◌, ◌*◌, ◌^◌, ◌≤◌, ◌++◌, ◌↔◌, IsTrue, length, map, nat_lt, int_lt};
+ghost use Rattle.std.specs.Prelude.{◌∷◌, [], ◌≡◌, ◌+◌, ◌-◌, ◌*◌, ◌^◌, ◌≤◌, ◌++◌, ◌↔◌, IsTrue, length, map, nat_lt, int_lt};
 ghost use Rattle.vod_bits.specs.Bit.{B0, B1, bit_if, not_bit, and_bit, or_bit, xor_bit};
 ghost use Rattle.vod_bits.specs.Value.{bits_of, number_of, signed_of, upper_bit, zip_with, fold_bits, shift_left, shift_right, resize_bits, slice_bits};
 
@@ -45,6 +45,30 @@ impl Model for Bits {
 }
 
 impl Bits {
+    /// One bit: 1 where the test holds, else 0.
+    pub fn bit(test: bool) -> Bits
+        ensures { result ≡ bit_if test ∷ [] }
+    {
+        Bits {
+            width: 1,
+            word: Word::from(test),
+        }
+    }
+
+    /// How many bits there are.
+    pub fn size(self) -> u8
+        ensures { result ≡ length self }
+    {
+        self.width
+    }
+
+    /// The number that the bits stand for.
+    pub fn number(self) -> Word
+        ensures { result ≡ number_of self }
+    {
+        self.word
+    }
+
     /// `&`, bit by bit. The operands have one width, here and below.
     pub fn and(self, other: Bits) -> Bits
         requires { length self ≡ length other }

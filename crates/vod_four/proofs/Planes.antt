@@ -1,6 +1,6 @@
 -- Operators on values of four states by those on their planes.
 use Rattle.std.proofs.Common.{◌≡◌, ℕ, zero, suc, Bool, true, false, not, ◌&&◌, ◌||◌, cond, List, [], ◌∷◌, length, map, replicate, refl, sym, ◌∙◌, ap, arith}
-use Rattle.std.specs.Int.{bit_at, from_bool}
+use Rattle.std.specs.Int.{bit_at}
 use Rattle.std.specs.List.{list_any, list_all}
 use Rattle.std.proofs.Math.Bool.{and-false}
 use Rattle.std.proofs.lemmas.Nat.Bits.{bit_at-lt, bit_at-zero}
@@ -300,8 +300,3 @@ bounds_length xs ys e =
     let a : length (map not_bit xs) ≡ length xs = map_length not_bit xs in
     let m : length ys ≡ length (map not_bit xs) = omega arith in
     e ∙ sym (zip_length and_bit ys (map not_bit xs) m)
-
-pub one_bit_value : (b : Bool) (n : ℕ) → n ≡ from_bool b → bits_of 1 n ≡ bit_if b ∷ []
-unfolding bits_from
-one_bit_value true n e = rw e refl
-one_bit_value false n e = rw e refl

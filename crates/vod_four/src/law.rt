@@ -2,10 +2,10 @@
 //! `and`, `or`, `xor`, `not`, `all`, `any`, `parity`, `resize`, `slice` and `concat` are the same in both types. What the other
 //! methods of `Four` are said to give is, on known values, what those of `Bits` are said to give.
 
-ghost use Rattle.std.specs.Prelude.{◌≡◌, ◌≢◌, ◌+◌, ◌-◌, ◌*◌, ◌^◌, true, length, nat_lt, int_lt};
-ghost use Rattle.vod_bits.specs.Bit.{B0, B1, bit_if};
-ghost use Rattle.vod_bits.specs.Value.{bits_of, number_of, signed_of, upper_bit, all_known, shift_left, shift_right};
-ghost use Rattle.vod_four.specs.Four.{sum_bits, difference_bits, product_bits, negative_bits, less_bit, less_signed_bit, equal_bit, shift_left_by, shift_right_by, shift_signed_by};
+ghost use Rattle.std.specs.Prelude.{◌≡◌, ◌≢◌, ◌+◌, ◌-◌, ◌*◌, ◌^◌, true, List, length, nat_lt, int_lt};
+ghost use Rattle.vod_bits.specs.Bit.{Bit, B0, B1, or_bit, bit_if};
+ghost use Rattle.vod_bits.specs.Value.{bits_of, number_of, signed_of, upper_bit, all_known, fold_bits, shift_left, shift_right};
+ghost use Rattle.vod_four.specs.Four.{sum_bits, difference_bits, product_bits, negative_bits, less_bit, less_signed_bit, equal_bit, truth_bit, shift_left_by, shift_right_by, shift_signed_by};
 
 use crate::Four;
 use vod_bits::Bits;
@@ -38,3 +38,8 @@ pub fn agree_on_shifts(a: Bits, amount: Bits)
     let _a = Four::of(a);
     let _amount = Four::of(amount);
 }
+
+/// The truth of a value is the reduction `|` of its bits (5.1.9, 5.1.11).
+pub fn truth_is_any()
+    ensures { (a : List Bit) → truth_bit a ≡ fold_bits or_bit B0 a }
+{}

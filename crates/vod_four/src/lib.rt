@@ -9,7 +9,7 @@ ghost use Rattle.vod_bits.specs.Value.{number_of, all_known, zip_with, fold_bits
 ghost use Rattle.vod_four.specs.Four.{four_bit, sum_bits, difference_bits, product_bits, negative_bits, less_bit, less_signed_bit, equal_bit, truth_bit, shift_left_by, shift_right_by, shift_signed_by, merge_bit, choose_bits};
 ghost use Rattle.vod_four.specs.Fields.{one_bit, unk_bit, sure_bit, possible_bit, bounded_bit};
 
-pub use law::{agree_on_pairs, agree_on_shifts};
+pub use law::{agree_on_pairs, agree_on_shifts, truth_is_any};
 use std::marker::Model;
 use vod_bits::{Bits, WIDTH, Word};
 
@@ -38,23 +38,6 @@ impl Model for Four {
     ghost inverse = { λ bs. record { width = length bs; ones = ones_of bs; unks = unks_of bs } };
 
     ghost inverse_ok = { λ v h. fields_back (λ w o u. record { width = w; ones = o; unks = u }) v.width v.ones v.unks h.2 h.3 };
-}
-
-// One bit, 1 where the test holds, else 0.
-fn bit(test: bool) -> Bits
-    ensures { result ≡ bit_if test ∷ [] }
-{
-    Bits {
-        width: 1,
-        word: Word::from(test),
-    }
-}
-
-// The number that a known value stands for.
-fn number(bits: Bits) -> Word
-    ensures { result ≡ number_of bits }
-{
-    bits.word
 }
 
 // The branch of `?:` that a known truth takes.
@@ -120,8 +103,8 @@ impl Four {
         Four::from_planes(sure, possible.and(sure.not()))
     }
 
-    // One x.
-    fn unknown() -> Four
+    /// One x.
+    pub fn unknown() -> Four
         ensures { result ≡ BX ∷ [] }
     {
         Four {
@@ -164,6 +147,13 @@ impl Four {
 }
 
 impl Four {
+    /// How many bits there are.
+    pub fn size(self) -> u8
+        ensures { result ≡ length self }
+    {
+        self.width
+    }
+
     /// `&`, bit by bit. The operands have one width, here and below.
     pub fn and(self, other: Four) -> Four
         requires { length self ≡ length other }
@@ -273,7 +263,7 @@ impl Four {
         ensures { result ≡ less_bit self other ∷ [] }
     {
         match self.known_pair(other) {
-            Some(pair) => Four::of(bit(pair.0.lt(pair.1))),
+            Some(pair) => Four::of(Bits::bit(pair.0.lt(pair.1))),
             None => Four::unknown(),
         }
     }
@@ -284,7 +274,7 @@ impl Four {
         ensures { result ≡ less_signed_bit self other ∷ [] }
     {
         match self.known_pair(other) {
-            Some(pair) => Four::of(bit(pair.0.lt_signed(pair.1))),
+            Some(pair) => Four::of(Bits::bit(pair.0.lt_signed(pair.1))),
             None => Four::unknown(),
         }
     }
@@ -294,8 +284,8 @@ impl Four {
         ensures { result ≡ fold_bits and_bit B1 self ∷ [] }
     {
         Four::from_bounds(
-            bit(self.sure_plane().all()),
-            bit(self.possible_plane().all()),
+            Bits::bit(self.sure_plane().all()),
+            Bits::bit(self.possible_plane().all()),
         )
     }
 
@@ -304,8 +294,8 @@ impl Four {
         ensures { result ≡ fold_bits or_bit B0 self ∷ [] }
     {
         Four::from_bounds(
-            bit(self.sure_plane().any()),
-            bit(self.possible_plane().any()),
+            Bits::bit(self.sure_plane().any()),
+            Bits::bit(self.possible_plane().any()),
         )
     }
 
@@ -314,7 +304,7 @@ impl Four {
         ensures { result ≡ fold_bits xor_bit B0 self ∷ [] }
     {
         match self.known() {
-            Some(a) => Four::of(bit(a.parity())),
+            Some(a) => Four::of(Bits::bit(a.parity())),
             None => Four::unknown(),
         }
     }
@@ -346,8 +336,8 @@ impl Four {
     {
         match amount.known() {
             Some(by) => Four::from_planes(
-                self.sure_plane().shl(number(by)),
-                self.unk_plane().shl(number(by)),
+                self.sure_plane().shl(by.number()),
+                self.unk_plane().shl(by.number()),
             ),
             None => self.all_unknown(),
         }
@@ -359,8 +349,8 @@ impl Four {
     {
         match amount.known() {
             Some(by) => Four::from_planes(
-                self.sure_plane().shr(number(by)),
-                self.unk_plane().shr(number(by)),
+                self.sure_plane().shr(by.number()),
+                self.unk_plane().shr(by.number()),
             ),
             None => self.all_unknown(),
         }
@@ -372,8 +362,8 @@ impl Four {
     {
         match amount.known() {
             Some(by) => Four::from_planes(
-                self.sure_plane().sar(number(by)),
-                self.unk_plane().sar(number(by)),
+                self.sure_plane().sar(by.number()),
+                self.unk_plane().sar(by.number()),
             ),
             None => self.all_unknown(),
         }
