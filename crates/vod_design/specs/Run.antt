@@ -10,8 +10,8 @@ use Rattle.vod_design.specs.declared.sized.Variable.TheVariants.{Signal, Local}
 use Rattle.vod_design.specs.declared.statement.CaseItem.{CaseItem}
 use Rattle.vod_design.specs.declared.statement.Function.{Function}
 use Rattle.vod_design.specs.declared.statement.Part.{Part}
-use Rattle.vod_design.specs.declared.statement.PartPlace.{PartPlace}
-use Rattle.vod_design.specs.declared.statement.PartPlace.TheVariants as part
+use Rattle.vod_design.specs.declared.statement.PartTarget.{PartTarget}
+use Rattle.vod_design.specs.declared.statement.PartTarget.TheVariants as part
 use Rattle.vod_design.specs.declared.statement.Size.{Size}
 use Rattle.vod_design.specs.declared.statement.Statement.{Statement}
 use Rattle.vod_design.specs.declared.statement.Statement.TheOpen.{Statement-F, CaseItem-F}
@@ -25,7 +25,7 @@ pub data Target : Type 0 where
   Word : ℕ → ℕ → Target
 
 -- the index of a part, x where it has none
-abbrev pub index_bits : (SizedExpr → Operand) → PartPlace → List Bit
+abbrev pub index_bits : (SizedExpr → Operand) → PartTarget → List Bit
 index_bits value (part.Bits x low) = BX ∷ []
 index_bits value (part.Index x least index) = (value index).bits
 index_bits value (part.Word memory least index) = (value index).bits
@@ -35,7 +35,7 @@ abbrev pub at_index : (ℕ → Target) → Option ℕ → Option Target
 at_index place None = None
 at_index place (Some n) = Some (place n)
 
-abbrev pub target_of : PartPlace → List Bit → Option Target
+abbrev pub target_of : PartTarget → List Bit → Option Target
 target_of (part.Bits x low) index = Some (Bits x low)
 target_of (part.Index x least _) index = at_index (Bits x) (index_place least index)
 target_of (part.Word memory least _) index = at_index (Word memory) (index_place least index)
@@ -57,7 +57,7 @@ abbrev pub assigned : List Part → List (List Bit) → List Bit → Frame → F
 assigned [] indices value frame = frame
 assigned (p ∷ parts) [] value frame = frame
 assigned (p ∷ parts) (index ∷ indices) value frame =
-    assigned parts indices value (written (target_of p.place index) (select_bits p.low (bounded p.width) value) frame)
+    assigned parts indices value (written (target_of p.target index) (select_bits p.low (bounded p.width) value) frame)
 
 -- one statement after the other
 abbrev pub in_turn : List (Frame → Frame) → Frame → Frame
@@ -80,7 +80,7 @@ first_branch value tested (branch ∷ more) otherwise = if has_label value teste
 
 -- what a statement does to a function's variables. The indices of a left side are evaluated before its parts are written
 abbrev pub effect : (Frame → SizedExpr → Operand) → Statement-F (Frame → Frame) Branch → Frame → Frame
-effect value (Statement-F.Assign parts right) frame = assigned parts (map (λ p. index_bits (value frame) p.place) parts) (value frame right).bits frame
+effect value (Statement-F.Assign parts right) frame = assigned parts (map (λ p. index_bits (value frame) p.target) parts) (value frame right).bits frame
 effect value (Statement-F.If test taken other) frame = (if is_1 (truth_bit (value frame test).bits) then taken else other) frame
 effect value (Statement-F.Case tested items otherwise) frame = first_branch (value frame) (value frame tested) items otherwise frame
 effect value (Statement-F.Begin statements) frame = in_turn statements frame

@@ -23,6 +23,13 @@ pub enum Named {
     Constant(Bits),
 }
 
+/// A memory as an expression sees it: its number, and how many bits each of its words has (4.9).
+#[derive(Clone, Copy)]
+pub struct Memory {
+    pub number: u32,
+    pub width: u8,
+}
+
 /// An operator on one operand that has the operator's own size (5.1.5, 5.1.10).
 #[derive(Clone, Copy, PartialEq, Eq)]
 pub enum UnaryOp {
@@ -109,11 +116,25 @@ pub enum ShiftOp {
     ArithmeticRight,
 }
 
-/// An expression, and the size in bits and the sign at which it is evaluated. A size is from 1 to `WIDTH`; one outside counts
-/// as the nearest of these.
+/// A gate (7.2, 7.3).
+#[derive(Clone, Copy, PartialEq, Eq)]
+pub enum GateOp {
+    And,
+    Nand,
+    Or,
+    Nor,
+    Xor,
+    Xnor,
+    Buf,
+    Not,
+}
+
+/// An expression: the place of its first token, as a byte offset in the source, and the size in bits and the sign at which it is
+/// evaluated. A size is from 1 to `WIDTH`; one outside counts as the nearest of these.
 #[cycle(sized)]
 #[derive(Drop)]
 pub struct SizedExpr {
+    pub place: u32,
     pub width: u8,
     pub signed: bool,
     pub kind: SizedKind,
@@ -131,10 +152,10 @@ pub enum SizedKind {
     Select(Named, u8, u8),
     /// A bit select by a value: the index of the lowest bit, and the index (5.2.1).
     Index(Named, u16, Boxed<SizedExpr>),
-    /// A word of a memory at a constant index: the memory's number, and the word's place from the least index up (5.2.2).
-    Word(u32, u16),
-    /// A word by a value: the memory's number, its least index, and the index (5.2.2).
-    WordIndex(u32, u16, Boxed<SizedExpr>),
+    /// A word of a memory at a constant index: the memory, and the word's place from the least index up (5.2.2).
+    Word(Memory, u16),
+    /// A word by a value: the memory, its least index, and the index (5.2.2).
+    WordIndex(Memory, u16, Boxed<SizedExpr>),
     /// `-` and `~`
     Unary(UnaryOp, Boxed<SizedExpr>),
     /// `+ - * & | ^ ~^`
@@ -157,6 +178,8 @@ pub enum SizedKind {
     Replicate(u8, Boxed<SizedExpr>),
     /// A call of a function by its number, with its arguments (10.4.3).
     Call(u32, Items<SizedExpr>),
+    /// A gate, with its inputs, each of one bit (7.2, 7.3).
+    Gate(GateOp, Items<SizedExpr>),
 }
 
 /// An expression's value hangs on what it reads alone: the values of a function's variables aside, two environments that agree on
