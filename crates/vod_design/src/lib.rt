@@ -7,7 +7,7 @@ pub mod thin;
 
 pub use sized::{
     BinaryOp, ComparisonOp, GateOp, LogicalOp, Memory, Named, ReductionOp, ShiftOp, SizedExpr,
-    SizedKind, UnaryOp, Variable, value_hangs_on_reads,
+    SizedKind, UnaryOp, Variable, value_forgets_places, value_hangs_on_reads,
 };
 pub use statement::{
     Body, CaseItem, Function, Locals, Part, PartTarget, Place, Places, Size, Statement,

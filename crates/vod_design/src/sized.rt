@@ -4,6 +4,7 @@ ghost use Rattle.vod_design.specs.declared.statement.Function.{Function};
 ghost use Rattle.vod_design.specs.Values.{Values, Frame};
 ghost use Rattle.vod_design.specs.Run.{eval};
 ghost use Rattle.vod_design.specs.Reads.{reads, Agree};
+ghost use Rattle.vod_design.specs.Source.{unplaced};
 
 use sqlite_items::{Boxed, Items};
 use vod_bits::Bits;
@@ -186,4 +187,9 @@ pub enum SizedKind {
 /// that give it one value.
 pub fn value_hangs_on_reads()
     ensures { (functions : List Function) (u v : Values) (frame : Frame) (e : SizedExpr) → All (Agree u v) (reads e) → eval functions u frame e ≡ eval functions v frame e }
+{}
+
+/// An expression's value doesn't hang on places: two expressions that are equal but for these have one value.
+pub fn value_forgets_places()
+    ensures { (functions : List Function) (values : Values) (frame : Frame) (a b : SizedExpr) → unplaced a ≡ unplaced b → eval functions values frame a ≡ eval functions values frame b }
 {}
