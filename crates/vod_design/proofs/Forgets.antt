@@ -4,10 +4,10 @@ use Rattle.vod_bits.specs.Bit.{Bit}
 use Rattle.vod_design.specs.declared.sized.SizedExpr.{SizedExpr}
 use Rattle.vod_design.specs.declared.sized.SizedKind.{SizedKind}
 use Rattle.vod_design.specs.declared.sized.SizedKind.TheOpen.{SizedKind-F, SizedExpr-F}
-use Rattle.vod_design.specs.declared.sized.SizedKind.TheFolds.{fold-SizedExpr, fold-SizedKind, fold-roll-SizedKind, fold-roll-SizedExpr, map-SizedKind, map-SizedExpr, ind-SizedExpr}
+use Rattle.vod_design.specs.declared.sized.SizedKind.TheFolds.{fold-SizedKind, fold-roll-SizedKind, fold-roll-SizedExpr, map-SizedKind, map-SizedExpr, ind-SizedExpr}
 use Rattle.vod_design.specs.declared.sized.SizedKind.TheViews.{roll-SizedKind, roll-SizedExpr}
 use Rattle.vod_design.specs.declared.statement.Function.{Function}
-use Rattle.vod_design.specs.Values.{Values, Frame, Operand, at_size, index_place, named_bits, bit_at_place, word_or_x, word_at}
+use Rattle.vod_design.specs.Values.{Values, Frame, Operand, at_size, index_place, named_bits, bit_at_place}
 use Rattle.vod_design.specs.Eval.{Calls, gate_bit, kind_bits, sized_operand, operand_of}
 use Rattle.vod_design.specs.Run.{call_below, eval}
 use Rattle.vod_design.specs.Source.{node_unplaced, unplaced}

@@ -1,5 +1,5 @@
 -- An expression's value hangs on what it reads alone.
-use Rattle.std.proofs.Common.{◌≡◌, ℕ, Bool, false, List, [], ◌∷◌, ◌++◌, map, flat_map, max, length, refl, sym, ◌∙◌, ap, subst, Option, None, Some, All}
+use Rattle.std.proofs.Common.{◌≡◌, ℕ, Bool, false, List, [], ◌∷◌, ◌++◌, map, flat_map, length, refl, sym, ◌∙◌, ap, subst, Option, None, Some, All}
 use Rattle.std.specs.List.{AllByRecursion}
 use Rattle.std.proofs.lemmas.List.Elements.{recursion_from_All}
 use Rattle.vod_bits.specs.Bit.{Bit}
@@ -9,13 +9,13 @@ use Rattle.vod_design.specs.declared.sized.Named.TheVariants as named
 use Rattle.vod_design.specs.declared.sized.SizedExpr.{SizedExpr}
 use Rattle.vod_design.specs.declared.sized.SizedKind.{SizedKind}
 use Rattle.vod_design.specs.declared.sized.SizedKind.TheOpen.{SizedKind-F, SizedExpr-F}
-use Rattle.vod_design.specs.declared.sized.SizedKind.TheFolds.{fold-SizedExpr, fold-SizedKind, fold-roll-SizedKind, fold-roll-SizedExpr, map-SizedKind, map-SizedExpr, ind-SizedExpr}
+use Rattle.vod_design.specs.declared.sized.SizedKind.TheFolds.{fold-SizedKind, fold-roll-SizedKind, fold-roll-SizedExpr, map-SizedKind, map-SizedExpr, ind-SizedExpr}
 use Rattle.vod_design.specs.declared.sized.SizedKind.TheViews.{roll-SizedKind, roll-SizedExpr}
 use Rattle.vod_design.specs.Values.{Values, Frame, Operand, bounded, at_size, select_bits, index_place, named_bits, bit_at_place, word_or_x, word_at}
 use Rattle.vod_design.specs.Eval.{Calls, gate_bit, kind_bits, sized_operand, operand_of}
 use Rattle.vod_design.specs.declared.statement.Function.{Function}
 use Rattle.vod_design.specs.Run.{call_below, eval}
-use Rattle.vod_design.specs.Reads.{Read, Whole, Bits, Word, Ram, whole, bits, kind_reads, reads, Agree}
+use Rattle.vod_design.specs.Reads.{Read, Ram, whole, bits, kind_reads, reads, Agree}
 
 abbrev Alike : Values → Values → List Read → Type 0
 Alike u v rs = AllByRecursion (Agree u v) rs

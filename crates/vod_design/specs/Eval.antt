@@ -20,7 +20,6 @@ use Rattle.vod_design.specs.declared.sized.ShiftOp.TheVariants as shift
 use Rattle.vod_design.specs.declared.sized.GateOp.{GateOp}
 use Rattle.vod_design.specs.declared.sized.GateOp.TheVariants as gate
 use Rattle.vod_design.specs.declared.sized.SizedExpr.{SizedExpr}
-use Rattle.vod_design.specs.declared.sized.SizedKind.{SizedKind}
 use Rattle.vod_design.specs.declared.sized.SizedKind.TheOpen.{SizedKind-F, SizedExpr-F}
 use Rattle.vod_design.specs.declared.sized.SizedKind.TheFolds.{fold-SizedExpr}
 use Rattle.vod_design.specs.Values.{Values, Frame, Operand, bounded, at_size, select_bits, index_place, named_bits, bit_at_place, word_or_x, word_at}
@@ -115,10 +114,13 @@ unfoldable pub fold_inputs : (Bit → Bit → Bit) → Bit → List Bit → Bit
 fold_inputs table start [] = start
 fold_inputs table start (input ∷ more) = fold_inputs table (table start input) more
 
--- the one input of a buffer or an inverter, x where there is none
-abbrev pub input_of : List Bit → Bit
-input_of [] = BX
-input_of (input ∷ more) = input
+-- of the inputs so far and one more, the latter
+abbrev pub latest : Bit → Bit → Bit
+latest earlier input = input
+
+-- the input of a buffer or an inverter: the last terminal, x where there is none (7.3)
+abbrev pub last_input : List Bit → Bit
+last_input inputs = fold_inputs latest BX inputs
 
 -- the gates (7.2, 7.3)
 abbrev pub gate_bit : GateOp → List Bit → Bit
@@ -128,8 +130,8 @@ gate_bit gate.Or inputs = fold_inputs or_bit B0 inputs
 gate_bit gate.Nor inputs = not_bit (fold_inputs or_bit B0 inputs)
 gate_bit gate.Xor inputs = fold_inputs xor_bit B0 inputs
 gate_bit gate.Xnor inputs = not_bit (fold_inputs xor_bit B0 inputs)
-gate_bit gate.Buf inputs = buf_bit (input_of inputs)
-gate_bit gate.Not inputs = not_bit (input_of inputs)
+gate_bit gate.Buf inputs = buf_bit (last_input inputs)
+gate_bit gate.Not inputs = not_bit (last_input inputs)
 
 -- bits, so many times one behind the other (5.1.14)
 unfoldable pub repeated : ℕ → List Bit → List Bit

@@ -1,7 +1,7 @@
 -- Expressions but for where they stand in the source.
 use Rattle.vod_design.specs.declared.sized.SizedExpr.{SizedExpr}
 use Rattle.vod_design.specs.declared.sized.SizedKind.{SizedKind}
-use Rattle.vod_design.specs.declared.sized.SizedKind.TheOpen.{SizedKind-F, SizedExpr-F}
+use Rattle.vod_design.specs.declared.sized.SizedKind.TheOpen.{SizedExpr-F}
 use Rattle.vod_design.specs.declared.sized.SizedKind.TheFolds.{fold-SizedExpr}
 use Rattle.vod_design.specs.declared.sized.SizedKind.TheViews.{roll-SizedKind, roll-SizedExpr}
 
