@@ -2,3 +2,4 @@ pub mod Values
 pub mod Eval
 pub mod Run
 pub mod Reads
+pub mod Source
