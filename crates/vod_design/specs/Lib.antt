@@ -3,3 +3,4 @@ pub mod Eval
 pub mod Run
 pub mod Reads
 pub mod Source
+pub mod Lawful

@@ -3,6 +3,7 @@
 
 mod sized;
 mod statement;
+mod vector;
 
 pub use sized::{
     BinaryOp, ComparisonOp, GateOp, LogicalOp, Memory, Named, ReductionOp, ShiftOp, SizedExpr,
@@ -11,3 +12,4 @@ pub use sized::{
 pub use statement::{
     Body, CaseItem, Function, Locals, Part, PartTarget, Place, Places, Size, Statement,
 };
+pub use vector::{Class, Move, Moves, Vector, one_more_is_lawful};
