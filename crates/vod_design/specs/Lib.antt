@@ -4,3 +4,4 @@ pub mod Run
 pub mod Reads
 pub mod Source
 pub mod Lawful
+pub mod Limits

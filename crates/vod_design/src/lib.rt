@@ -1,10 +1,17 @@
 //! Designs: what a simulation is of.
 #![tactic(auto)]
 
+mod parts;
+mod refusal;
 mod sized;
 mod statement;
 mod vector;
 
+pub use parts::{
+    Assigns, Block, Driver, Edge, Initial, InitialAssign, InitialTarget, Input, Name, Precision,
+    Ram, Scope, Signal, Unit,
+};
+pub use refusal::{Rule, Which};
 pub use sized::{
     BinaryOp, ComparisonOp, GateOp, LogicalOp, Memory, Named, ReductionOp, ShiftOp, SizedExpr,
     SizedKind, UnaryOp, Variable, value_forgets_places, value_hangs_on_reads,

@@ -1,5 +1,5 @@
 //! Vectors: the timed assignments of inputs that drive a run, and which lists of them are lawful.
-ghost use Rattle.std.specs.Prelude.{◌↔◌, List, [], ◌∷◌, ◌++◌};
+ghost use Rattle.std.specs.Prelude.{◌≡◌, ◌↔◌, List, [], ◌∷◌, ◌++◌};
 ghost use Rattle.vod_design.specs.declared.vector.Vector.{Vector};
 ghost use Rattle.vod_design.specs.Lawful.{Port, IsLawful, IsNext};
 
