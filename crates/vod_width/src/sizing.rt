@@ -1,11 +1,11 @@
 //! What an expression is where it stands, and what a constant one stands for.
-ghost use Rattle.std.specs.Prelude.{◌≡◌, ◌≤◌, ◌&&◌, List, [], true, Some, MatchResult, All, Contains};
+ghost use Rattle.std.specs.Prelude.{◌≡◌, ◌≤◌, ◌&&◌, List, [], true, false, Some, MatchResult, All, Contains};
 ghost use Rattle.vod_bits.specs.Value.{all_known};
 ghost use Rattle.vod_design.specs.Run.{eval, nothing};
 ghost use Rattle.vod_operand.specs.declared.fault.Fault.{Fault};
-ghost use Rattle.vod_operand.specs.Operands.{first, value, place_of};
+ghost use Rattle.vod_operand.specs.Operands.{first, value, place_of, stands_before};
 ghost use Rattle.vod_width.specs.Sizes.{look, in_context, constant_faults};
-ghost use Rattle.vod_width.specs.Refusals.{Refused, HasNoValue, refusal_of, fault_beside};
+ghost use Rattle.vod_width.specs.Refusals.{Refused, HasNoValue, refusal_of};
 
 use crate::decls::{Decls, Params};
 use crate::expr::look_expr;
@@ -13,7 +13,7 @@ use crate::types::{Constant, WidthFault};
 use std::alloc::Global;
 use vod_bits::WIDTH;
 use vod_design::SizedExpr;
-use vod_operand::{Fault, fit, fit_own, sooner, value};
+use vod_operand::{Fault, fault_beside, fit, fit_own, value};
 use vod_tree::Expr;
 
 /// The expression as it is evaluated in a context: at its own size or the context's, whichever is larger, by its own sign (5.4.1,
@@ -53,7 +53,7 @@ pub fn constant(alloc: Global, expr: &Expr, params: &Params<'_>) -> Result<Const
 
 /// The first fault of several is one of them, and none of them stands before it.
 pub fn first_is_least()
-    ensures { (faults : List Fault) (f : Fault) → first faults ≡ Some f → Contains faults f × All (λ g. place_of f ≤ place_of g) faults }
+    ensures { (faults : List Fault) (f : Fault) → first faults ≡ Some f → Contains faults f × All (λ g. stands_before (place_of g) (place_of f) ≡ false) faults }
 {}
 
 // A fault as a refusal.
@@ -63,6 +63,7 @@ fn refusal(fault: Fault) -> WidthFault
     match fault {
         Fault::Rule(place) => WidthFault::Rule { place },
         Fault::Width(place) => WidthFault::Width { place },
+        Fault::Open => WidthFault::Open,
     }
 }
 
@@ -82,16 +83,5 @@ fn known(
     match value(alloc, e)?.known() {
         Some(value) => Ok(Constant { value, signed }),
         None => Err(WidthFault::Rule { place }),
-    }
-}
-
-// The first fault of an expression with a fault inside it: one that isn't constant is at fault at its own place too.
-fn fault_beside(fault: Fault, constant: bool, place: u32) -> Fault
-    ensures { result ≡ fault_beside fault constant place }
-{
-    if constant {
-        fault
-    } else {
-        sooner(fault, Fault::Rule(place))
     }
 }

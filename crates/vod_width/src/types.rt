@@ -17,6 +17,9 @@ pub enum WidthFault {
     Rule { place: u32 },
     /// A part is wider than `WIDTH` bits.
     Width { place: u32 },
+    /// Nothing in it has a fault of its own, but it hangs on a name whose size, range or value couldn't be formed. That was refused
+    /// where it stands.
+    Open,
     /// Memory ran out.
     Memory,
 }
@@ -32,6 +35,9 @@ impl fmt::Display for WidthFault {
             }
             WidthFault::Width { place } => {
                 write!(f, "the part at byte {place} is wider than {WIDTH} bits")
+            }
+            WidthFault::Open => {
+                f.write_str("a name has no size, range or value that could be formed")
             }
             WidthFault::Memory => f.write_str("memory ran out"),
         }
