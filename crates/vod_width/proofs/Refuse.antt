@@ -11,8 +11,8 @@ use Rattle.vod_design.specs.Run.{eval, nothing}
 use Rattle.vod_operand.specs.declared.fault.Fault.{Fault}
 use Rattle.vod_operand.specs.declared.fault.Fault.TheVariants.{Rule, Width, Open}
 use Rattle.vod_operand.specs.Operands.{Looked, own, place_of, stands_before, first, are_none, is_sound, value, join}
-use Rattle.vod_operand.specs.Found.{SeesAs, IsNarrow, fault_beside}
-use Rattle.vod_operand.specs.FaultLaws.{not_before, unsound}
+use Rattle.vod_operand.specs.Found.{TreeIs, Sees, SeesAs, IsNarrow, fault_of, fault_beside}
+use Rattle.vod_operand.specs.FaultLaws.{not_before, sound_none, unsound}
 use Rattle.vod_operand.specs.FoundLaws.{here, gone, beside_first}
 use Rattle.vod_operand.specs.declared.tree.Looked as code
 use Rattle.vod_width.specs.declared.types.Constant.{Constant}
@@ -28,6 +28,24 @@ sized_here c x e context w own_width s t h n p q r =
     let narrow = n (ap first found.0) in
     let exact : w ≡ max context x.width = omega (arith, p, q, narrow) in
     (found.0, found.1 ∙ ap (λ k. x.sized k s) exact ∙ ap (x.sized (max context x.width)) r)
+
+-- where there is a tree there is no fault
+no_fault_of : (t : Result SizedExpr Fault) (f : Option Fault) (u : SizedExpr) → None ≡ fault_of t → TreeIs t f u → f ≡ None
+no_fault_of (Ok t) f u n h = h.0
+no_fault_of (Err e) f u n h = absurd (cc)
+
+the_fault_of : (t : Result SizedExpr Fault) (f : Option Fault) (g : Fault) (u : SizedExpr) → Some g ≡ fault_of t → TreeIs t f u → f ≡ Some g
+the_fault_of (Ok t) f g u n h = absurd (cc)
+the_fault_of (Err e) f g u n h = h ∙ sym n
+
+pub own_here : (c : code.Looked) (x : Looked) → None ≡ fault_of c.tree → Sees c x → IsNarrow x → (x.faults ≡ []) × (c.width ≡ x.width) × (c.signed ≡ x.signed) × (c.constant ≡ x.constant)
+own_here c x t s narrow =
+    let none = no_fault_of c.tree (first x.faults) (x.sized 0 false) t s.tree in
+    let small = narrow none in
+    (sound_none x.faults none, omega (arith, s.width, small), s.signed, s.constant)
+
+pub own_gone : (c : code.Looked) (x : Looked) (f : Fault) → Some f ≡ fault_of c.tree → Sees c x → first x.faults ≡ Some f
+own_gone c x f t s = the_fault_of c.tree (first x.faults) f (x.sized 0 false) t s.tree
 
 pub refused : (f : Fault) (fs : List Fault) → first fs ≡ Some f → Refused (refusal_of f) fs
 refused (Rule place) fs h = h

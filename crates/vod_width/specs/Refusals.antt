@@ -1,8 +1,9 @@
 -- Why an expression is refused.
 use Rattle.std.specs.Prelude.{◌≡◌, ℕ, Bool, false, List, Some}
 use Rattle.vod_operand.specs.declared.fault.Fault.{Fault}
-use Rattle.vod_operand.specs.Operands.{first}
+use Rattle.vod_operand.specs.Operands.{Looked, first}
 use Rattle.vod_operand.specs.declared.fault.Fault.TheVariants as faults
+use Rattle.vod_width.specs.declared.types.Own.{Own}
 use Rattle.vod_width.specs.declared.types.WidthFault.{WidthFault}
 use Rattle.vod_width.specs.declared.types.WidthFault.TheVariants as refusals
 
@@ -24,3 +25,7 @@ HasNoValue (refusals.Rule p) known place = (known ≡ false) × (p ≡ place)
 HasNoValue (refusals.Width p) known place = ⊥
 HasNoValue refusals.Open known place = ⊥
 HasNoValue refusals.Memory known place = Unit {0}
+
+-- what an expression is by itself
+abbrev pub IsOwn : Own → Looked → Type 0
+IsOwn o x = (o.width ≡ x.width) × (o.signed ≡ x.signed) × (o.constant ≡ x.constant)

@@ -12,5 +12,5 @@ mod sizing;
 pub mod types;
 
 pub use decls::{Callee, Declared, Decls, Params, Sort, Vector, WordArray};
-pub use sizing::{constant, first_is_least, size};
+pub use sizing::{constant, first_is_least, own, size, size_at};
 pub use types::WidthFault;

@@ -5,15 +5,15 @@ ghost use Rattle.vod_design.specs.Run.{eval, nothing};
 ghost use Rattle.vod_operand.specs.declared.fault.Fault.{Fault};
 ghost use Rattle.vod_operand.specs.Operands.{first, value, place_of, stands_before};
 ghost use Rattle.vod_width.specs.Sizes.{look, in_context, constant_faults};
-ghost use Rattle.vod_width.specs.Refusals.{Refused, HasNoValue, refusal_of};
+ghost use Rattle.vod_width.specs.Refusals.{Refused, HasNoValue, IsOwn, refusal_of};
 
 use crate::decls::{Decls, Params};
 use crate::expr::look_expr;
-use crate::types::{Constant, WidthFault};
+use crate::types::{Constant, Own, WidthFault};
 use std::alloc::Global;
 use vod_bits::WIDTH;
 use vod_design::SizedExpr;
-use vod_operand::{Fault, fault_beside, fit, fit_own, value};
+use vod_operand::{Fault, fault_beside, fault_of, fit, fit_own, value};
 use vod_tree::Expr;
 
 /// The expression as it is evaluated in a context: at its own size or the context's, whichever is larger, by its own sign (5.4.1,
@@ -30,6 +30,40 @@ pub fn size(
     let x = look_expr(alloc, decls, expr)?;
     let width = context.max(x.width);
     let signed = x.signed;
+    let x = fit(alloc, x, width, signed)?;
+    match x.tree {
+        Ok(e) => Ok(e),
+        Err(f) => Err(refusal(f)),
+    }
+}
+
+/// What an expression is by itself: its size and sign, and whether it is constant. The refusal is that of `size`.
+pub fn own(alloc: Global, expr: &Expr, decls: &Decls<'_>) -> Result<Own, WidthFault>
+    ensures { MatchResult result (λ o. ((look decls.now expr.now).faults ≡ []) × IsOwn o (look decls.now expr.now)) (λ f. Refused f (look decls.now expr.now).faults) }
+{
+    let x = look_expr(alloc, decls, expr)?;
+    match fault_of(&x.tree) {
+        None => Ok(Own {
+            width: x.width,
+            signed: x.signed,
+            constant: x.constant,
+        }),
+        Some(f) => Err(refusal(f)),
+    }
+}
+
+/// The expression as it is evaluated at a size and sign that its place gives it, as among the expressions of a `case` (9.5): a size
+/// that is at least its own. The refusal is that of `size`.
+pub fn size_at(
+    alloc: Global,
+    expr: &Expr,
+    decls: &Decls<'_>,
+    width: u8,
+    signed: bool,
+) -> Result<SizedExpr, WidthFault>
+    ensures { MatchResult result (λ e. ((look decls.now expr.now).faults ≡ []) × (e ≡ (look decls.now expr.now).sized width signed)) (λ f. Refused f (look decls.now expr.now).faults) }
+{
+    let x = look_expr(alloc, decls, expr)?;
     let x = fit(alloc, x, width, signed)?;
     match x.tree {
         Ok(e) => Ok(e),

@@ -1,4 +1,4 @@
-//! What `constant` answers, and why it and `size` refuse.
+//! What `constant` and `own` answer, and why an expression is refused.
 use std::alloc::AllocError;
 use std::fmt;
 use vod_bits::{Bits, WIDTH};
@@ -8,6 +8,14 @@ use vod_bits::{Bits, WIDTH};
 pub struct Constant {
     pub value: Bits,
     pub signed: bool,
+}
+
+/// The size of an expression by itself, its sign, and whether it is constant.
+#[derive(Clone, Copy)]
+pub struct Own {
+    pub width: u8,
+    pub signed: bool,
+    pub constant: bool,
 }
 
 /// Why an expression is refused: by the first token of the least part that is at fault, and at one place by a rule before a width.
