@@ -1,5 +1,5 @@
 -- An expression's value hangs on what it reads alone.
-use Rattle.std.proofs.Common.{◌≡◌, ℕ, Bool, List, [], ◌∷◌, ◌++◌, map, flat_map, max, length, refl, sym, ◌∙◌, ap, subst, Option, None, Some, All}
+use Rattle.std.proofs.Common.{◌≡◌, ℕ, Bool, false, List, [], ◌∷◌, ◌++◌, map, flat_map, length, refl, sym, ◌∙◌, ap, subst, Option, None, Some, All}
 use Rattle.std.specs.List.{AllByRecursion}
 use Rattle.std.proofs.lemmas.List.Elements.{recursion_from_All}
 use Rattle.vod_bits.specs.Bit.{Bit}
@@ -9,13 +9,13 @@ use Rattle.vod_design.specs.declared.sized.Named.TheVariants as named
 use Rattle.vod_design.specs.declared.sized.SizedExpr.{SizedExpr}
 use Rattle.vod_design.specs.declared.sized.SizedKind.{SizedKind}
 use Rattle.vod_design.specs.declared.sized.SizedKind.TheOpen.{SizedKind-F, SizedExpr-F}
-use Rattle.vod_design.specs.declared.sized.SizedKind.TheFolds.{fold-SizedExpr, fold-SizedKind, fold-roll-SizedKind, fold-roll-SizedExpr, map-SizedKind, map-SizedExpr, ind-SizedExpr}
+use Rattle.vod_design.specs.declared.sized.SizedKind.TheFolds.{fold-SizedKind, fold-roll-SizedKind, fold-roll-SizedExpr, map-SizedKind, map-SizedExpr, ind-SizedExpr}
 use Rattle.vod_design.specs.declared.sized.SizedKind.TheViews.{roll-SizedKind, roll-SizedExpr}
 use Rattle.vod_design.specs.Values.{Values, Frame, Operand, bounded, at_size, select_bits, index_place, named_bits, bit_at_place, word_or_x, word_at}
-use Rattle.vod_design.specs.Eval.{Calls, kind_bits, sized_operand, operand_of}
+use Rattle.vod_design.specs.Eval.{Calls, gate_bit, kind_bits, sized_operand, operand_of}
 use Rattle.vod_design.specs.declared.statement.Function.{Function}
 use Rattle.vod_design.specs.Run.{call_below, eval}
-use Rattle.vod_design.specs.Reads.{Read, Whole, Bits, Word, Ram, whole, bits, kind_reads, reads, Agree}
+use Rattle.vod_design.specs.Reads.{Read, Ram, whole, bits, kind_reads, reads, Agree}
 
 abbrev Alike : Values → Values → List Read → Type 0
 Alike u v rs = AllByRecursion (Agree u v) rs
@@ -90,10 +90,10 @@ layer_same calls u v frame (SizedKind-F.Index n least e) w s h =
     let p = whole_same u v frame n (front u v (whole n) (reads e.0) h) in
     let q = e.1 (back u v (whole n) (reads e.0) h) in
     ap (λ b. bit_at_place b (index_place least (operand_of calls u frame e.0).bits)) p ∙ ap (λ (o : Operand). bit_at_place (named_bits v frame n) (index_place least o.bits)) q
-layer_same calls u v frame (SizedKind-F.Word memory place) w s h = ap (word_or_x (bounded w)) h.0
+layer_same calls u v frame (SizedKind-F.Word memory place) w s h = ap (word_or_x (bounded memory.width)) h.0
 layer_same calls u v frame (SizedKind-F.WordIndex memory least e) w s h =
-    ap (λ (o : Operand). word_or_x (bounded w) (word_at u memory (index_place least o.bits))) (e.1 h.1)
-    ∙ ap (word_or_x (bounded w)) (ram_same u v memory (index_place least (operand_of calls v frame e.0).bits) h.0)
+    ap (λ (o : Operand). word_or_x (bounded memory.width) (word_at u memory.number (index_place least o.bits))) (e.1 h.1)
+    ∙ ap (word_or_x (bounded memory.width)) (ram_same u v memory.number (index_place least (operand_of calls v frame e.0).bits) h.0)
 layer_same calls u v frame (SizedKind-F.Unary op a) w s h = let p = a.1 h in cc
 layer_same calls u v frame (SizedKind-F.Binary op a b) w s h = let p = a.1 (front u v (reads a.0) (reads b.0) h) in let q = b.1 (back u v (reads a.0) (reads b.0) h) in cc
 layer_same calls u v frame (SizedKind-F.Comparison op a b) w s h = let p = a.1 (front u v (reads a.0) (reads b.0) h) in let q = b.1 (back u v (reads a.0) (reads b.0) h) in cc
@@ -109,6 +109,8 @@ layer_same calls u v frame (SizedKind-F.Conditional t a b) w s h =
 layer_same calls u v frame (SizedKind-F.Concat parts) w s h = ap (flat_map (λ (o : Operand). o.bits)) (all_same calls u v frame parts h)
 layer_same calls u v frame (SizedKind-F.Replicate count a) w s h = let p = a.1 h in cc
 layer_same calls u v frame (SizedKind-F.Call n arguments) w s h = ap (calls n) (all_same calls u v frame arguments h)
+layer_same calls u v frame (SizedKind-F.Gate op inputs) w s h =
+    ap (λ (os : List Operand). gate_bit op (flat_map (λ (o : Operand). at_size 1 false o.bits) os) ∷ []) (all_same calls u v frame inputs h)
 
 rolled : (calls : Calls) (u v : Values) (frame : Frame) (y : Proved calls u v frame) → KindSame calls u v frame (roll-SizedKind (bare calls u v frame y))
 unfolding reads operand_of

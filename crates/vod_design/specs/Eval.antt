@@ -17,8 +17,9 @@ use Rattle.vod_design.specs.declared.sized.ReductionOp.{ReductionOp}
 use Rattle.vod_design.specs.declared.sized.ReductionOp.TheVariants as reduction
 use Rattle.vod_design.specs.declared.sized.ShiftOp.{ShiftOp}
 use Rattle.vod_design.specs.declared.sized.ShiftOp.TheVariants as shift
+use Rattle.vod_design.specs.declared.sized.GateOp.{GateOp}
+use Rattle.vod_design.specs.declared.sized.GateOp.TheVariants as gate
 use Rattle.vod_design.specs.declared.sized.SizedExpr.{SizedExpr}
-use Rattle.vod_design.specs.declared.sized.SizedKind.{SizedKind}
 use Rattle.vod_design.specs.declared.sized.SizedKind.TheOpen.{SizedKind-F, SizedExpr-F}
 use Rattle.vod_design.specs.declared.sized.SizedKind.TheFolds.{fold-SizedExpr}
 use Rattle.vod_design.specs.Values.{Values, Frame, Operand, bounded, at_size, select_bits, index_place, named_bits, bit_at_place, word_or_x, word_at}
@@ -101,6 +102,37 @@ shift_bits shift.Left signed amount a = shift_left_by amount a
 shift_bits shift.Right signed amount a = shift_right_by amount a
 shift_bits shift.ArithmeticRight signed amount a = if signed then shift_signed_by amount a else shift_right_by amount a
 
+-- a buffer: its input, x where that is z (7.3)
+abbrev pub buf_bit : Bit → Bit
+buf_bit B0 = B0
+buf_bit B1 = B1
+buf_bit BX = BX
+buf_bit BZ = BX
+
+-- a table folded over the inputs of a gate from the left: that of no inputs is `start` (7.2)
+unfoldable pub fold_inputs : (Bit → Bit → Bit) → Bit → List Bit → Bit
+fold_inputs table start [] = start
+fold_inputs table start (input ∷ more) = fold_inputs table (table start input) more
+
+-- of the inputs so far and one more, the latter
+abbrev pub latest : Bit → Bit → Bit
+latest earlier input = input
+
+-- the input of a buffer or an inverter: the last terminal, x where there is none (7.3)
+abbrev pub last_input : List Bit → Bit
+last_input inputs = fold_inputs latest BX inputs
+
+-- the gates (7.2, 7.3)
+abbrev pub gate_bit : GateOp → List Bit → Bit
+gate_bit gate.And inputs = fold_inputs and_bit B1 inputs
+gate_bit gate.Nand inputs = not_bit (fold_inputs and_bit B1 inputs)
+gate_bit gate.Or inputs = fold_inputs or_bit B0 inputs
+gate_bit gate.Nor inputs = not_bit (fold_inputs or_bit B0 inputs)
+gate_bit gate.Xor inputs = fold_inputs xor_bit B0 inputs
+gate_bit gate.Xnor inputs = not_bit (fold_inputs xor_bit B0 inputs)
+gate_bit gate.Buf inputs = buf_bit (last_input inputs)
+gate_bit gate.Not inputs = not_bit (last_input inputs)
+
 -- bits, so many times one behind the other (5.1.14)
 unfoldable pub repeated : ℕ → List Bit → List Bit
 repeated zero bits = []
@@ -112,8 +144,8 @@ kind_bits calls values frame (SizedKind-F.Number bits) width signed = bits
 kind_bits calls values frame (SizedKind-F.Name name) width signed = named_bits values frame name
 kind_bits calls values frame (SizedKind-F.Select name low count) width signed = select_bits low (bounded count) (named_bits values frame name)
 kind_bits calls values frame (SizedKind-F.Index name least index) width signed = bit_at_place (named_bits values frame name) (index_place least index.bits)
-kind_bits calls values frame (SizedKind-F.Word memory place) width signed = word_or_x (bounded width) (values.word memory place)
-kind_bits calls values frame (SizedKind-F.WordIndex memory least index) width signed = word_or_x (bounded width) (word_at values memory (index_place least index.bits))
+kind_bits calls values frame (SizedKind-F.Word memory place) width signed = word_or_x (bounded memory.width) (values.word memory.number place)
+kind_bits calls values frame (SizedKind-F.WordIndex memory least index) width signed = word_or_x (bounded memory.width) (word_at values memory.number (index_place least index.bits))
 kind_bits calls values frame (SizedKind-F.Unary op a) width signed = unary_bits op (at_size width signed a.bits)
 kind_bits calls values frame (SizedKind-F.Binary op a b) width signed = binary_bits op (at_size width signed a.bits) (at_size width signed b.bits)
 kind_bits calls values frame (SizedKind-F.Comparison op a b) width signed = compared op a b ∷ []
@@ -125,6 +157,7 @@ kind_bits calls values frame (SizedKind-F.Conditional test a b) width signed = c
 kind_bits calls values frame (SizedKind-F.Concat parts) width signed = flat_map (λ part. part.bits) parts
 kind_bits calls values frame (SizedKind-F.Replicate count a) width signed = repeated count a.bits
 kind_bits calls values frame (SizedKind-F.Call n arguments) width signed = calls n arguments
+kind_bits calls values frame (SizedKind-F.Gate op inputs) width signed = gate_bit op (flat_map (λ input. at_size 1 false input.bits) inputs) ∷ []
 
 -- an expression's value at its size and sign
 abbrev pub sized_operand : SizedExpr-F (ℕ → Bool → List Bit) Operand → Operand

@@ -7,3 +7,4 @@ pub mod Values
 pub mod Eval
 pub mod Run
 pub mod Reads
+pub mod Source

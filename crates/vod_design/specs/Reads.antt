@@ -1,12 +1,10 @@
 -- What an expression can read of signals and memory words.
 use Rattle.std.specs.Prelude.{◌≡◌, ℕ, List, [], ◌∷◌, ◌++◌, flat_map}
-use Rattle.vod_bits.specs.Bit.{Bit}
-use Rattle.vod_design.specs.declared.sized.Variable.{Variable}
 use Rattle.vod_design.specs.declared.sized.Variable.TheVariants.{Signal, Local}
 use Rattle.vod_design.specs.declared.sized.Named.{Named}
 use Rattle.vod_design.specs.declared.sized.Named.TheVariants as named
 use Rattle.vod_design.specs.declared.sized.SizedExpr.{SizedExpr}
-use Rattle.vod_design.specs.declared.sized.SizedKind.TheOpen.{SizedKind-F, SizedExpr-F}
+use Rattle.vod_design.specs.declared.sized.SizedKind.TheOpen.{SizedKind-F}
 use Rattle.vod_design.specs.declared.sized.SizedKind.TheFolds.{fold-SizedExpr}
 use Rattle.vod_design.specs.Values.{Values, bounded, select_bits}
 
@@ -34,8 +32,8 @@ kind_reads (SizedKind-F.Number _) = []
 kind_reads (SizedKind-F.Name name) = whole name
 kind_reads (SizedKind-F.Select name low width) = bits name low width
 kind_reads (SizedKind-F.Index name least index) = whole name ++ index
-kind_reads (SizedKind-F.Word memory place) = Word memory place ∷ []
-kind_reads (SizedKind-F.WordIndex memory least index) = Ram memory ∷ index
+kind_reads (SizedKind-F.Word memory place) = Word memory.number place ∷ []
+kind_reads (SizedKind-F.WordIndex memory least index) = Ram memory.number ∷ index
 kind_reads (SizedKind-F.Unary op a) = a
 kind_reads (SizedKind-F.Binary op a b) = a ++ b
 kind_reads (SizedKind-F.Comparison op a b) = a ++ b
@@ -47,6 +45,7 @@ kind_reads (SizedKind-F.Conditional test a b) = test ++ a ++ b
 kind_reads (SizedKind-F.Concat parts) = flat_map (λ part. part) parts
 kind_reads (SizedKind-F.Replicate count a) = a
 kind_reads (SizedKind-F.Call n arguments) = flat_map (λ argument. argument) arguments
+kind_reads (SizedKind-F.Gate op inputs) = flat_map (λ input. input) inputs
 
 unfoldable pub reads : SizedExpr → List Read
 reads e = fold-SizedExpr (List Read) (List Read) kind_reads (λ e. e.kind) e

@@ -1,23 +1,22 @@
 -- What a statement of a function does, and the value that a call gives (IEEE 1364-2005, 9.2 to 9.5, 10.4).
-use Rattle.std.specs.Prelude.{Bool, ℕ, zero, suc, ◌+◌, ◌-◌, nat_le, ◌==◌, if◌then◌else◌, List, [], ◌∷◌, ◌++◌, length, map, take, drop, slice_get, slice_set, Option, None, Some}
-use Rattle.std.specs.List.{list_any}
+use Rattle.std.specs.Prelude.{Bool, ℕ, zero, suc, ◌+◌, ◌-◌, nat_le, max, ◌==◌, if◌then◌else◌, List, [], ◌∷◌, ◌++◌, length, map, flat_map, take, drop, slice_get, slice_set, Option, None, Some}
+use Rattle.std.specs.List.{list_any, list_all}
 use Rattle.vod_bits.specs.Bit.{Bit, BX, is_1}
 use Rattle.vod_four.specs.Four.{truth_bit}
-use Rattle.vod_design.specs.declared.sized.ComparisonOp.TheVariants as comparison
 use Rattle.vod_design.specs.declared.sized.SizedExpr.{SizedExpr}
 use Rattle.vod_design.specs.declared.sized.Variable.{Variable}
 use Rattle.vod_design.specs.declared.sized.Variable.TheVariants.{Signal, Local}
 use Rattle.vod_design.specs.declared.statement.CaseItem.{CaseItem}
 use Rattle.vod_design.specs.declared.statement.Function.{Function}
 use Rattle.vod_design.specs.declared.statement.Part.{Part}
-use Rattle.vod_design.specs.declared.statement.PartPlace.{PartPlace}
-use Rattle.vod_design.specs.declared.statement.PartPlace.TheVariants as part
+use Rattle.vod_design.specs.declared.statement.PartTarget.{PartTarget}
+use Rattle.vod_design.specs.declared.statement.PartTarget.TheVariants as part
 use Rattle.vod_design.specs.declared.statement.Size.{Size}
 use Rattle.vod_design.specs.declared.statement.Statement.{Statement}
 use Rattle.vod_design.specs.declared.statement.Statement.TheOpen.{Statement-F, CaseItem-F}
 use Rattle.vod_design.specs.declared.statement.Statement.TheFolds.{fold-Statement, fold-CaseItem}
 use Rattle.vod_design.specs.Values.{Values, Frame, Operand, unknown, bounded, at_size, value_at, select_bits, index_place}
-use Rattle.vod_design.specs.Eval.{Calls, compared, operand_of}
+use Rattle.vod_design.specs.Eval.{Calls, identical_bit, operand_of}
 
 -- a place that a part of an assignment writes: bits of a variable from a place up, or a memory word
 pub data Target : Type 0 where
@@ -25,7 +24,7 @@ pub data Target : Type 0 where
   Word : ℕ → ℕ → Target
 
 -- the index of a part, x where it has none
-abbrev pub index_bits : (SizedExpr → Operand) → PartPlace → List Bit
+abbrev pub index_bits : (SizedExpr → Operand) → PartTarget → List Bit
 index_bits value (part.Bits x low) = BX ∷ []
 index_bits value (part.Index x least index) = (value index).bits
 index_bits value (part.Word memory least index) = (value index).bits
@@ -35,7 +34,7 @@ abbrev pub at_index : (ℕ → Target) → Option ℕ → Option Target
 at_index place None = None
 at_index place (Some n) = Some (place n)
 
-abbrev pub target_of : PartPlace → List Bit → Option Target
+abbrev pub target_of : PartTarget → List Bit → Option Target
 target_of (part.Bits x low) index = Some (Bits x low)
 target_of (part.Index x least _) index = at_index (Bits x) (index_place least index)
 target_of (part.Word memory least _) index = at_index (Word memory) (index_place least index)
@@ -57,7 +56,7 @@ abbrev pub assigned : List Part → List (List Bit) → List Bit → Frame → F
 assigned [] indices value frame = frame
 assigned (p ∷ parts) [] value frame = frame
 assigned (p ∷ parts) (index ∷ indices) value frame =
-    assigned parts indices value (written (target_of p.place index) (select_bits p.low (bounded p.width) value) frame)
+    assigned parts indices value (written (target_of p.target index) (select_bits p.low (bounded p.width) value) frame)
 
 -- one statement after the other
 abbrev pub in_turn : List (Frame → Frame) → Frame → Frame
@@ -69,20 +68,41 @@ pub record Branch : Type 0 where
   pub labels : List SizedExpr
   pub body : Frame → Frame
 
+-- the value and the labels of a `case`
+abbrev pub compared_in : SizedExpr → List Branch → List SizedExpr
+compared_in tested items = tested ∷ flat_map (λ item. item.labels) items
+
+-- the largest size of several expressions, and whether all of them are signed
+abbrev pub largest : List SizedExpr → ℕ
+largest [] = 0
+largest (e ∷ more) = max e.width (largest more)
+
+abbrev pub all_signed : List SizedExpr → Bool
+all_signed es = list_all (λ e. e.signed) es
+
+-- a value at the size of a `case`: the largest of all its expressions, as a signed one only where all of them are (9.5)
+abbrev pub at_largest : List SizedExpr → List Bit → List Bit
+at_largest es value = at_size (largest es) (all_signed es) value
+
 -- whether a label is equal to the value, x and z included (9.5)
-abbrev pub has_label : (SizedExpr → Operand) → Operand → List SizedExpr → Bool
-has_label value tested labels = list_any (λ label. is_1 (compared comparison.CaseEqual tested (value label))) labels
+abbrev pub has_label : (SizedExpr → List Bit) → List Bit → List SizedExpr → Bool
+has_label value tested labels = list_any (λ label. is_1 (identical_bit tested (value label))) labels
 
 -- the first item with such a label, or else the last branch
-abbrev pub first_branch : (SizedExpr → Operand) → Operand → List Branch → (Frame → Frame) → Frame → Frame
+abbrev pub first_branch : (SizedExpr → List Bit) → List Bit → List Branch → (Frame → Frame) → Frame → Frame
 first_branch value tested [] otherwise = otherwise
-first_branch value tested (branch ∷ more) otherwise = if has_label value tested branch.labels then branch.body else first_branch value tested more otherwise
+first_branch value tested (item ∷ more) otherwise = if has_label value tested item.labels then item.body else first_branch value tested more otherwise
+
+-- the branch that a `case` takes, where its expressions have these values
+abbrev pub case_branch : (SizedExpr → Operand) → SizedExpr → List Branch → (Frame → Frame) → Frame → Frame
+case_branch value tested items otherwise =
+    first_branch (λ e. at_largest (compared_in tested items) (value e).bits) (at_largest (compared_in tested items) (value tested).bits) items otherwise
 
 -- what a statement does to a function's variables. The indices of a left side are evaluated before its parts are written
 abbrev pub effect : (Frame → SizedExpr → Operand) → Statement-F (Frame → Frame) Branch → Frame → Frame
-effect value (Statement-F.Assign parts right) frame = assigned parts (map (λ p. index_bits (value frame) p.place) parts) (value frame right).bits frame
+effect value (Statement-F.Assign parts right) frame = assigned parts (map (λ p. index_bits (value frame) p.target) parts) (value frame right).bits frame
 effect value (Statement-F.If test taken other) frame = (if is_1 (truth_bit (value frame test).bits) then taken else other) frame
-effect value (Statement-F.Case tested items otherwise) frame = first_branch (value frame) (value frame tested) items otherwise frame
+effect value (Statement-F.Case tested items otherwise) frame = case_branch (value frame) tested items otherwise frame
 effect value (Statement-F.Begin statements) frame = in_turn statements frame
 effect value Statement-F.Empty frame = frame
 

@@ -1,5 +1,5 @@
 -- What an expression is evaluated over, and values at a size (IEEE 1364-2005, 5.2, 5.4).
-use Rattle.std.specs.Prelude.{ℕ, ◌+◌, ◌-◌, ◌≤◌, nat_le, min, max, Bool, ◌&&◌, if◌then◌else◌, List, [], ◌∷◌, length, replicate, slice_index_or, Option, None, Some}
+use Rattle.std.specs.Prelude.{ℕ, ◌+◌, ◌-◌, nat_le, min, max, Bool, ◌&&◌, if◌then◌else◌, List, [], ◌∷◌, length, replicate, slice_index_or, Option, None, Some}
 use Rattle.vod_bits.specs.Bit.{Bit, BX}
 use Rattle.vod_bits.specs.Value.{number_of, all_known, resize_bits, slice_bits}
 use Rattle.vod_bits.specs.declared.TheConstants.{WIDTH}

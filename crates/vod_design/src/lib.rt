@@ -6,9 +6,9 @@ mod statement;
 pub mod thin;
 
 pub use sized::{
-    BinaryOp, ComparisonOp, LogicalOp, Named, ReductionOp, ShiftOp, SizedExpr, SizedKind, UnaryOp,
-    Variable, value_hangs_on_reads,
+    BinaryOp, ComparisonOp, GateOp, LogicalOp, Memory, Named, ReductionOp, ShiftOp, SizedExpr,
+    SizedKind, UnaryOp, Variable, value_forgets_places, value_hangs_on_reads,
 };
 pub use statement::{
-    Body, CaseItem, Function, Locals, Part, PartPlace, Place, Places, Size, Statement,
+    Body, CaseItem, Function, Locals, Part, PartTarget, Place, Places, Size, Statement,
 };

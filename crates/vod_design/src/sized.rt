@@ -4,6 +4,7 @@ ghost use Rattle.vod_design.specs.declared.statement.Function.{Function};
 ghost use Rattle.vod_design.specs.Values.{Values, Frame};
 ghost use Rattle.vod_design.specs.Run.{eval};
 ghost use Rattle.vod_design.specs.Reads.{reads, Agree};
+ghost use Rattle.vod_design.specs.Source.{unplaced};
 
 use sqlite_items::{Boxed, Items};
 use vod_bits::Bits;
@@ -21,6 +22,13 @@ pub enum Variable {
 pub enum Named {
     Variable(Variable),
     Constant(Bits),
+}
+
+/// A memory as an expression sees it: its number, and how many bits each of its words has (4.9).
+#[derive(Clone, Copy)]
+pub struct Memory {
+    pub number: u32,
+    pub width: u8,
 }
 
 /// An operator on one operand that has the operator's own size (5.1.5, 5.1.10).
@@ -109,11 +117,25 @@ pub enum ShiftOp {
     ArithmeticRight,
 }
 
-/// An expression, and the size in bits and the sign at which it is evaluated. A size is from 1 to `WIDTH`; one outside counts
-/// as the nearest of these.
+/// A gate (7.2, 7.3).
+#[derive(Clone, Copy, PartialEq, Eq)]
+pub enum GateOp {
+    And,
+    Nand,
+    Or,
+    Nor,
+    Xor,
+    Xnor,
+    Buf,
+    Not,
+}
+
+/// An expression: the place of its first token, as a byte offset in the source, and the size in bits and the sign at which it is
+/// evaluated. A size is from 1 to `WIDTH`; one outside counts as the nearest of these.
 #[cycle(sized)]
 #[derive(Drop)]
 pub struct SizedExpr {
+    pub place: u32,
     pub width: u8,
     pub signed: bool,
     pub kind: SizedKind,
@@ -131,10 +153,10 @@ pub enum SizedKind {
     Select(Named, u8, u8),
     /// A bit select by a value: the index of the lowest bit, and the index (5.2.1).
     Index(Named, u16, Boxed<SizedExpr>),
-    /// A word of a memory at a constant index: the memory's number, and the word's place from the least index up (5.2.2).
-    Word(u32, u16),
-    /// A word by a value: the memory's number, its least index, and the index (5.2.2).
-    WordIndex(u32, u16, Boxed<SizedExpr>),
+    /// A word of a memory at a constant index: the memory, and the word's place from the least index up (5.2.2).
+    Word(Memory, u16),
+    /// A word by a value: the memory, its least index, and the index (5.2.2).
+    WordIndex(Memory, u16, Boxed<SizedExpr>),
     /// `-` and `~`
     Unary(UnaryOp, Boxed<SizedExpr>),
     /// `+ - * & | ^ ~^`
@@ -157,10 +179,17 @@ pub enum SizedKind {
     Replicate(u8, Boxed<SizedExpr>),
     /// A call of a function by its number, with its arguments (10.4.3).
     Call(u32, Items<SizedExpr>),
+    /// A gate, with its inputs, each of one bit (7.2, 7.3).
+    Gate(GateOp, Items<SizedExpr>),
 }
 
 /// An expression's value hangs on what it reads alone: the values of a function's variables aside, two environments that agree on
 /// that give it one value.
 pub fn value_hangs_on_reads()
     ensures { (functions : List Function) (u v : Values) (frame : Frame) (e : SizedExpr) → All (Agree u v) (reads e) → eval functions u frame e ≡ eval functions v frame e }
+{}
+
+/// An expression's value doesn't hang on places: two expressions that are equal but for these have one value.
+pub fn value_forgets_places()
+    ensures { (functions : List Function) (values : Values) (frame : Frame) (a b : SizedExpr) → unplaced a ≡ unplaced b → eval functions values frame a ≡ eval functions values frame b }
 {}

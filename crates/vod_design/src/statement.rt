@@ -5,9 +5,9 @@ use crate::{SizedExpr, Variable};
 use sqlite_items::{Boxed, Items};
 use std::marker::Model;
 
-/// Where a part of a left side is.
+/// What a part of a left side writes.
 #[derive(Drop)]
-pub enum PartPlace {
+pub enum PartTarget {
     /// Bits of a variable, from a place up, counted from its lowest bit.
     Bits(Variable, u8),
     /// A bit of a variable by a value: the index of its lowest bit, and the index.
@@ -16,12 +16,14 @@ pub enum PartPlace {
     Word(u32, u16, SizedExpr),
 }
 
-/// A part of a left side. It takes `width` bits of the value assigned, from the place `low` up.
+/// A part of a left side, with the place of its first token, as a byte offset in the source. It takes `width` bits of the value
+/// assigned, from the place `low` up.
 #[derive(Drop)]
 pub struct Part {
+    pub place: u32,
     pub low: u8,
     pub width: u8,
-    pub place: PartPlace,
+    pub target: PartTarget,
 }
 
 /// A statement. An assignment is a nonblocking one in a block and a blocking one in a function.

@@ -73,7 +73,7 @@ signs_back calls values frame (e ∷ es) =
 pub assigned_take : (parts : List Part) (indices : List (List Bit)) (value : List Bit) (frame : Frame) → assigned parts indices value frame ≡ assigned parts (take (length parts) indices) value frame
 assigned_take [] indices value frame = refl
 assigned_take (p ∷ parts) [] value frame = refl
-assigned_take (p ∷ parts) (index ∷ indices) value frame = assigned_take parts indices value (written (target_of p.place index) (select_bits p.low (bounded p.width) value) frame)
+assigned_take (p ∷ parts) (index ∷ indices) value frame = assigned_take parts indices value (written (target_of p.target index) (select_bits p.low (bounded p.width) value) frame)
 
 pub twice_not : (b : Bit) → is_1 (not_bit (not_bit b)) ≡ is_1 b
 twice_not B0 = refl

@@ -1,7 +1,7 @@
 -- Bits at a size, cut, and put together.
-use Rattle.std.proofs.Common.{◌≡◌, ℕ, zero, suc, ◌+◌, ◌-◌, ◌*◌, ◌≤◌, ◌<◌, Bool, true, false, cond, List, [], ◌∷◌, ◌++◌, length, take, drop, replicate, Option, None, Some, refl, sym, ◌∙◌, ap, arith, inl, inr, leb, IsTrue, ◌↔◌}
-use Rattle.std.proofs.lemmas.List.{append-nil, length-append, length-drop, length-replicate, replicate-append-replicate, drop-drop, drop-append-le, take_all}
-use Rattle.std.proofs.lemmas.Bool.{cases_lt, lt-ltb, le-ltb}
+use Rattle.std.proofs.Common.{◌≡◌, ℕ, suc, ◌+◌, ◌-◌, ◌≤◌, ◌<◌, Bool, true, false, List, [], ◌∷◌, ◌++◌, length, take, drop, replicate, Option, None, Some, refl, sym, ◌∙◌, ap, arith, inl, inr, IsTrue, ◌↔◌}
+use Rattle.std.proofs.lemmas.List.{append-nil, length-append, length-drop, replicate-append-replicate, drop-drop, drop-append-le, take_all}
+use Rattle.std.proofs.lemmas.Bool.{cases_lt}
 use Rattle.std.specs.Cmp.Lexicographic.{pointwise, pointwise_decides}
 use Rattle.vod_bits.specs.Bit.{Bit, B0, B1, BX, BZ, is_1, bit_if}
 use Rattle.vod_bits.specs.Value.{resize_bits, slice_bits, upper_bit}

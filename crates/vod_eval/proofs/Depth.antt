@@ -6,8 +6,8 @@ use Rattle.vod_design.specs.declared.sized.SizedKind.TheFolds.{fold-SizedExpr}
 use Rattle.vod_design.specs.declared.statement.CaseItem.{CaseItem}
 use Rattle.vod_design.specs.declared.statement.Function.{Function}
 use Rattle.vod_design.specs.declared.statement.Part.{Part}
-use Rattle.vod_design.specs.declared.statement.PartPlace.{PartPlace}
-use Rattle.vod_design.specs.declared.statement.PartPlace.TheVariants as part
+use Rattle.vod_design.specs.declared.statement.PartTarget.{PartTarget}
+use Rattle.vod_design.specs.declared.statement.PartTarget.TheVariants as part
 use Rattle.vod_design.specs.declared.statement.Statement.{Statement}
 use Rattle.vod_design.specs.declared.statement.Statement.TheOpen.{Statement-F, CaseItem-F}
 use Rattle.vod_design.specs.declared.statement.Statement.TheFolds.{fold-Statement, fold-CaseItem}
@@ -32,17 +32,18 @@ kind_depth (SizedKind-F.Conditional test a b) = max test (max a b)
 kind_depth (SizedKind-F.Concat parts) = most parts
 kind_depth (SizedKind-F.Replicate count a) = a
 kind_depth (SizedKind-F.Call n arguments) = most arguments
+kind_depth (SizedKind-F.Gate op inputs) = most inputs
 
 unfoldable pub depth : SizedExpr → ℕ
 depth e = fold-SizedExpr ℕ ℕ kind_depth (λ e. suc e.kind) e
 
-abbrev pub index_depth : PartPlace → ℕ
+abbrev pub index_depth : PartTarget → ℕ
 index_depth (part.Bits x low) = 0
 index_depth (part.Index x least index) = depth index
 index_depth (part.Word memory least index) = depth index
 
 abbrev pub part_depth : Part → ℕ
-part_depth p = index_depth p.place
+part_depth p = index_depth p.target
 
 abbrev pub effect_depth : Statement-F ℕ ℕ → ℕ
 effect_depth (Statement-F.Assign parts right) = suc (max (depth right) (most (map part_depth parts)))

@@ -1,5 +1,5 @@
 -- The variables of a function as it is entered.
-use Rattle.std.proofs.Common.{◌≡◌, ℕ, zero, suc, ◌+◌, ◌-◌, ◌≤◌, ◌<◌, List, [], ◌∷◌, ◌++◌, map, length, take, drop, slice_get, get_or, Option, None, Some, option_map, Bor, false, refl, sym, ◌∙◌, ap, arith, add-one}
+use Rattle.std.proofs.Common.{◌≡◌, ℕ, zero, suc, ◌+◌, ◌≤◌, ◌<◌, List, [], ◌∷◌, ◌++◌, length, take, slice_get, get_or, Option, None, Some, option_map, Bor, false, refl, sym, ◌∙◌, ap, arith, add-one}
 use Rattle.std.specs.Option.{option_copied}
 use Rattle.vod_bits.specs.Bit.{Bit}
 use Rattle.vod_design.specs.declared.sized.SizedExpr.{SizedExpr}

@@ -1,17 +1,17 @@
 -- What the folds over expressions and statements give where one layer stands open.
-use Rattle.std.proofs.Common.{◌≡◌, ℕ, suc, max, Bool, cond, List, ◌∷◌, map, ap, ◌∙◌}
+use Rattle.std.proofs.Common.{◌≡◌, ℕ, suc, max, Bool, cond, List, [], ◌∷◌, map, flat_map, refl, ap, sym, ◌∙◌}
 use Rattle.vod_bits.specs.Bit.{Bit}
 use Rattle.vod_design.specs.declared.sized.SizedExpr.{SizedExpr}
 use Rattle.vod_design.specs.declared.sized.SizedKind.{SizedKind}
-use Rattle.vod_design.specs.declared.sized.SizedKind.TheOpen.{SizedKind-F, SizedExpr-F}
-use Rattle.vod_design.specs.declared.sized.SizedKind.TheFolds.{fold-SizedExpr, fold-SizedKind, map-SizedKind, fold-roll-SizedKind, fold_out-SizedExpr}
+use Rattle.vod_design.specs.declared.sized.SizedKind.TheOpen.{SizedKind-F}
+use Rattle.vod_design.specs.declared.sized.SizedKind.TheFolds.{fold-SizedKind, map-SizedKind, fold-roll-SizedKind, fold_out-SizedExpr}
 use Rattle.vod_design.specs.declared.sized.SizedKind.TheViews.{roll-SizedKind}
 use Rattle.vod_design.specs.Values.{Values, Frame, Operand, at_size}
 use Rattle.vod_design.specs.Eval.{Calls, kind_bits, sized_operand, operand_of}
 use Rattle.vod_design.specs.declared.statement.CaseItem.{CaseItem}
 use Rattle.vod_design.specs.declared.statement.Statement.{Statement}
 use Rattle.vod_design.specs.declared.statement.Statement.TheOpen.{Statement-F}
-use Rattle.vod_design.specs.declared.statement.Statement.TheFolds.{fold-Statement, fold-CaseItem, map-Statement, fold-roll-Statement, fold_out-CaseItem}
+use Rattle.vod_design.specs.declared.statement.Statement.TheFolds.{fold-Statement, map-Statement, fold-roll-Statement, fold_out-CaseItem}
 use Rattle.vod_design.specs.declared.statement.Statement.TheViews.{roll-Statement}
 use Rattle.vod_design.specs.Run.{Branch, has_label, first_branch, effect, branch_of, run, branch}
 use Rattle.vod_eval.specs.Room.{kind_room, expr_room, most, effect_room, item_room, statement_room, item_room_of}
@@ -78,8 +78,16 @@ unfolding run branch
 branch_at calls values item = fold_out-CaseItem (Frame → Frame) Branch (effect (operand_of calls values)) branch_of item
 
 -- the first branch, or what the rest gives
-pub first_at : (value : SizedExpr → Operand) (tested : Operand) (calls : Calls) (values : Values) (item : CaseItem) (next : List Branch) (otherwise : Frame → Frame) (b : Bool)
+pub first_at : (value : SizedExpr → List Bit) (tested : List Bit) (calls : Calls) (values : Values) (item : CaseItem) (next : List Branch) (otherwise : Frame → Frame) (b : Bool)
     → has_label value tested item.labels ≡ b → first_branch value tested (branch calls values item ∷ next) otherwise ≡ cond b (run calls values item.body) (first_branch value tested next otherwise)
 first_at value tested calls values item next otherwise b h =
     ap (λ x. first_branch value tested (x ∷ next) otherwise) (branch_at calls values item)
     ∙ ap (λ t. cond t (run calls values item.body) (first_branch value tested next otherwise)) h
+
+-- the labels of the items of a `case`
+pub labels_back : (calls : Calls) (values : Values) (items : List CaseItem) → flat_map (λ item. item.labels) items ≡ flat_map (λ item. item.labels) (map (branch calls values) items)
+labels_back calls values [] = refl
+labels_back calls values (item ∷ more) =
+    let here : item.labels ≡ (branch calls values item).labels = sym (ap (λ (b : Branch). b.labels) (branch_at calls values item)) in
+    let rest : flat_map (λ item. item.labels) more ≡ flat_map (λ item. item.labels) (map (branch calls values) more) = labels_back calls values more in
+    cc

@@ -5,3 +5,5 @@ pub mod Lists
 pub mod Callable
 pub mod Enter
 pub mod Tables
+mod Gates
+mod Commons

@@ -5,9 +5,8 @@ use Rattle.vod_design.specs.declared.sized.SizedKind.TheOpen.{SizedKind-F}
 use Rattle.vod_design.specs.declared.sized.SizedKind.TheFolds.{fold-SizedExpr}
 use Rattle.vod_design.specs.declared.statement.CaseItem.{CaseItem}
 use Rattle.vod_design.specs.declared.statement.Function.{Function}
-use Rattle.vod_design.specs.declared.statement.Part.{Part}
-use Rattle.vod_design.specs.declared.statement.PartPlace.{PartPlace}
-use Rattle.vod_design.specs.declared.statement.PartPlace.TheVariants as part
+use Rattle.vod_design.specs.declared.statement.PartTarget.{PartTarget}
+use Rattle.vod_design.specs.declared.statement.PartTarget.TheVariants as part
 use Rattle.vod_design.specs.declared.statement.Statement.{Statement}
 use Rattle.vod_design.specs.declared.statement.Statement.TheOpen.{Statement-F, CaseItem-F}
 use Rattle.vod_design.specs.declared.statement.Statement.TheFolds.{fold-Statement, fold-CaseItem}
@@ -41,19 +40,20 @@ kind_room calls (SizedKind-F.Conditional test a b) = max test (max a b)
 kind_room calls (SizedKind-F.Concat parts) = most parts
 kind_room calls (SizedKind-F.Replicate count a) = a
 kind_room calls (SizedKind-F.Call n arguments) = max (staged arguments) (calls n)
+kind_room calls (SizedKind-F.Gate op inputs) = most inputs
 
 unfoldable pub expr_room : (ℕ → ℕ) → SizedExpr → ℕ
 expr_room calls e = fold-SizedExpr ℕ ℕ (kind_room calls) (λ e. e.kind) e
 
 -- the room of a part's index
-abbrev pub index_room : (ℕ → ℕ) → PartPlace → ℕ
+abbrev pub index_room : (ℕ → ℕ) → PartTarget → ℕ
 index_room calls (part.Bits x low) = 0
 index_room calls (part.Index x least index) = expr_room calls index
 index_room calls (part.Word memory least index) = expr_room calls index
 
 -- the room of a statement
 abbrev pub effect_room : (ℕ → ℕ) → Statement-F ℕ ℕ → ℕ
-effect_room calls (Statement-F.Assign parts right) = max (expr_room calls right) (staged (map (λ p. index_room calls p.place) parts))
+effect_room calls (Statement-F.Assign parts right) = max (expr_room calls right) (staged (map (λ p. index_room calls p.target) parts))
 effect_room calls (Statement-F.If test taken other) = max (expr_room calls test) (max taken other)
 effect_room calls (Statement-F.Case tested items otherwise) = max (expr_room calls tested) (max (most items) otherwise)
 effect_room calls (Statement-F.Begin statements) = most statements

@@ -1,5 +1,5 @@
 -- What the evaluation works over, as the definitions see it.
-use Rattle.std.specs.Prelude.{ℕ, nat_lt, Bool, if◌then◌else◌, List, [], ◌∷◌, Option, None, Some, option_and_then, slice_get}
+use Rattle.std.specs.Prelude.{ℕ, nat_lt, Bool, false, if◌then◌else◌, List, [], ◌∷◌, Option, None, Some, option_and_then, slice_get}
 use Rattle.vod_bits.specs.Bit.{Bit}
 use Rattle.vod_design.specs.declared.sized.SizedExpr.{SizedExpr}
 use Rattle.vod_design.specs.declared.statement.Function.{Function}
@@ -41,6 +41,14 @@ operand_in s frame e = operand_of (calls_of s) (scene_values s) frame e
 abbrev pub bits_in : Scene → Frame → SizedExpr → List Bit
 bits_in s frame e = (operand_in s frame e).bits
 
+-- an input of a gate, of one bit
+abbrev pub input_in : Scene → Frame → SizedExpr → List Bit
+input_in s frame e = at_size 1 false (bits_in s frame e)
+
+-- an expression's value at the size of a `case`
+abbrev pub bits_at : Scene → Frame → Size → SizedExpr → List Bit
+bits_at s frame size e = at_size size.width size.signed (bits_in s frame e)
+
 -- the values of expressions with the expressions' signs
 abbrev pub with_signs : List (List Bit) → List SizedExpr → List Operand
 with_signs [] es = []
@@ -65,8 +73,8 @@ branch_in s item = branch (calls_of s) (scene_values s) item
 
 -- the index of a part of a left side
 unfoldable pub index_in : Scene → Frame → Part → List Bit
-index_in s frame p = index_bits (operand_in s frame) p.place
+index_in s frame p = index_bits (operand_in s frame) p.target
 
 -- its room
 abbrev pub part_room : Scene → Part → ℕ
-part_room s p = index_room (rooms s) p.place
+part_room s p = index_room (rooms s) p.target

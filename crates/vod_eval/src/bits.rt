@@ -49,7 +49,7 @@ pub fn bit(test: bool) -> Four
 }
 
 // One bit of 1.
-fn one() -> Four
+pub fn one() -> Four
     ensures { result ≡ B1 ∷ [] }
 {
     Four {

@@ -1,23 +1,26 @@
 //! Expressions, calls and statements.
-ghost use Rattle.std.specs.Prelude.{◌≡◌, ◌+◌, ◌≤◌, map, flat_map, take, drop, length, [], ◌++◌, MatchOption, Some, None, option_map, slice_set};
+ghost use Rattle.std.specs.Prelude.{◌≡◌, ◌+◌, ◌≤◌, map, flat_map, take, drop, length, [], ◌∷◌, ◌++◌, MatchOption, Some, None, option_map, slice_set};
 ghost use Rattle.vod_bits.specs.Bit.{is_1};
 ghost use Rattle.vod_four.specs.Four.{truth_bit};
 ghost use Rattle.vod_design.specs.Values.{at_size, bounded, value_at, variable_bits, named_bits, word_or_x, word_at};
 ghost use Rattle.vod_design.specs.Run.{eval, in_turn, entered, frame_of, first_branch, has_label, assigned, written, target_of, at_index, replace_bits};
 ghost use Rattle.vod_design.specs.Run.Target.{Bits};
-ghost use Rattle.vod_eval.specs.Pieces.{bits_of_option, lowest};
+ghost use Rattle.vod_design.specs.Eval.{fold_inputs};
+ghost use Rattle.vod_eval.specs.Pieces.{bits_of_option, lowest, gate_start, gate_table};
 ghost use Rattle.vod_eval.specs.Room.{room_of, expr_room, statement_room, item_room_of, most, staged};
-ghost use Rattle.vod_eval.specs.Scenes.{callable_in, operand, with_signs, input_bits, unknown_of, run_in, branch_in, index_in, part_room, rooms, calls_of, values_of, scene_values, operand_in, bits_in};
+ghost use Rattle.vod_eval.specs.Scenes.{callable_in, operand, with_signs, input_bits, unknown_of, run_in, branch_in, index_in, part_room, rooms, calls_of, values_of, scene_values, operand_in, bits_in, input_in, bits_at};
 
 use crate::bits::{
     at_size, bit_at_place, filled, index_place, is_one, joined, repeated, replaced, select,
     unknown, unknown_bit,
 };
+use crate::labels::case_size;
 use crate::ops;
 use sqlite_items::{Items, at};
 use vod_bits::Word;
 use vod_design::{
-    CaseItem, Function, Named, Part, PartPlace, Size, SizedExpr, SizedKind, Statement, Variable,
+    CaseItem, Function, GateOp, Memory, Named, Part, PartTarget, Size, SizedExpr, SizedKind,
+    Statement, Variable,
 };
 use vod_four::Four;
 
@@ -53,13 +56,6 @@ pub struct Scene<'v> {
     memories: &'v [Items<Four>],
 }
 
-// What a `case` compares its labels to.
-#[derive(Drop)]
-struct Operand {
-    value: Four,
-    signed: bool,
-}
-
 // The value at a place of a list, x where there is none.
 fn value_at(values: &[Four], n: usize) -> Four
     ensures { result ≡ value_at values.now n }
@@ -87,21 +83,21 @@ fn named(scene: &Scene<'_>, frame: &[Four], name: Named) -> Four
     }
 }
 
-// A memory word at a size, x in each bit where there is none.
-fn word(scene: &Scene<'_>, memory: u32, place: Option<Word>, width: u8) -> Four
-    ensures { result ≡ word_or_x (bounded width) (word_at (scene_values scene.now) memory place) }
+// A memory word, x in each bit where there is none.
+fn word(scene: &Scene<'_>, memory: Memory, place: Option<Word>) -> Four
+    ensures { result ≡ word_or_x (bounded memory.width) (word_at (scene_values scene.now) memory.number place) }
 {
     let Some(place) = place else {
-        return unknown(width);
+        return unknown(memory.width);
     };
-    let Some(words) = scene.memories.get(memory as usize) else {
-        return unknown(width);
+    let Some(words) = scene.memories.get(memory.number as usize) else {
+        return unknown(memory.width);
     };
     words
         .as_slice()
         .get(place as usize)
         .copied()
-        .unwrap_or(unknown(width))
+        .unwrap_or(unknown(memory.width))
 }
 
 // The value of an expression at its size and sign.
@@ -128,10 +124,10 @@ fn unsized_value(scene: &Scene<'_>, frame: &[Four], e: &SizedExpr, room: &mut [F
             let index = value(scene, frame, index.get(), room);
             bit_at_place(named(scene, frame, *name), index_place(*least, index))
         }
-        SizedKind::Word(memory, place) => { word(scene, *memory, Some(Word::from(*place)), width) }
+        SizedKind::Word(memory, place) => word(scene, *memory, Some(Word::from(*place))),
         SizedKind::WordIndex(memory, least, index) => {
             let index = value(scene, frame, index.get(), room);
-            word(scene, *memory, index_place(*least, index), width)
+            word(scene, *memory, index_place(*least, index))
         }
         SizedKind::Unary(op, a) => {
             let a = value(scene, frame, a.get(), room);
@@ -176,6 +172,9 @@ fn unsized_value(scene: &Scene<'_>, frame: &[Four], e: &SizedExpr, room: &mut [F
         SizedKind::Call(n, arguments) => {
             call(scene, frame, *n as usize, arguments.as_slice(), room)
         }
+        SizedKind::Gate(op, inputs) => {
+            ops::gate_output(*op, folded(scene, frame, *op, inputs.as_slice(), room))
+        }
     }
 }
 
@@ -190,6 +189,26 @@ fn concat(scene: &Scene<'_>, frame: &[Four], parts: &[SizedExpr], room: &mut [Fo
         bits = Some(joined(bits, value(scene, frame, part, room)));
     }
     bits
+}
+
+// The table of a gate folded over its inputs, of one bit each.
+#[cycle(eval)]
+fn folded(
+    scene: &Scene<'_>,
+    frame: &[Four],
+    op: GateOp,
+    inputs: &[SizedExpr],
+    room: &mut [Four],
+) -> Four
+    requires { most (map (expr_room (rooms scene.now)) inputs.now) ≤ length room.old }
+    ensures { result ≡ fold_inputs (gate_table op) (gate_start op) (flat_map (input_in scene.now frame.now) inputs.now) ∷ [] }
+{
+    let mut so_far = ops::gate_start(op);
+    for input in inputs {
+        let input = value(scene, frame, input, room);
+        so_far = ops::gate_table(op, so_far, at_size(input, 1, false));
+    }
+    so_far
 }
 
 // The value of a call of the function of a number.
@@ -309,18 +328,10 @@ fn run(scene: &Scene<'_>, statement: &Statement, frame: &mut [Four], room: &mut 
             }
         }
         Statement::Case(tested, items, otherwise) => {
-            let tested = Operand {
-                value: value(scene, frame, tested, room),
-                signed: tested.signed,
-            };
-            case(
-                scene,
-                &tested,
-                items.as_slice(),
-                otherwise.get(),
-                frame,
-                room,
-            );
+            let items = items.as_slice();
+            let size = case_size(tested, items);
+            let tested = value(scene, frame, tested, room);
+            case(scene, size, tested, items, otherwise.get(), frame, room);
         }
         Statement::Begin(statements) => run_all(scene, statements.as_slice(), frame, room),
         Statement::Empty => {}
@@ -346,11 +357,12 @@ fn is_true(value: Four) -> bool
     is_one(value.logic_not().not())
 }
 
-// Runs the first item of a `case` with a label that is equal to the value, or else the last branch.
+// Runs the first item of a `case` with a label that is equal to the value at the size of the `case`, or else the last branch.
 #[cycle(eval)]
 fn case(
     scene: &Scene<'_>,
-    tested: &Operand,
+    size: Size,
+    tested: Four,
     items: &[CaseItem],
     otherwise: &Statement,
     frame: &mut [Four],
@@ -358,10 +370,10 @@ fn case(
 )
     requires items { most (map (item_room_of (rooms scene.now)) items.now) ≤ length room.old }
     requires otherwise { statement_room (rooms scene.now) otherwise.now ≤ length room.old }
-    ensures { frame.new ≡ first_branch (operand_in scene.now frame.old) (operand tested.now.value tested.now.signed) (map (branch_in scene.now) items.now) (run_in scene.now otherwise.now) frame.old }
+    ensures { frame.new ≡ first_branch (bits_at scene.now frame.old size) (at_size size.width size.signed tested) (map (branch_in scene.now) items.now) (run_in scene.now otherwise.now) frame.old }
 {
     for item in items {
-        if has_label(scene, tested, item.labels.as_slice(), frame, room) {
+        if has_label(scene, size, tested, item.labels.as_slice(), frame, room) {
             run(scene, &item.body, frame, room);
             return;
         }
@@ -369,21 +381,22 @@ fn case(
     run(scene, otherwise, frame, room);
 }
 
-// Whether a label is equal to the value, x and z included.
+// Whether a label is equal to the value at a size, x and z included.
 #[cycle(eval)]
 fn has_label(
     scene: &Scene<'_>,
-    tested: &Operand,
+    size: Size,
+    tested: Four,
     labels: &[SizedExpr],
     frame: &[Four],
     room: &mut [Four],
 ) -> bool
     requires { most (map (expr_room (rooms scene.now)) labels.now) ≤ length room.old }
-    ensures { result ≡ has_label (operand_in scene.now frame.now) (operand tested.now.value tested.now.signed) labels.now }
+    ensures { result ≡ has_label (bits_at scene.now frame.now size) (at_size size.width size.signed tested) labels.now }
 {
     for label in labels {
         let other = value(scene, frame, label, room);
-        if ops::is_identical(tested.value, tested.signed, other, label.signed) {
+        if ops::is_identical(size, tested, other) {
             return true;
         }
     }
@@ -407,10 +420,10 @@ fn part_index(scene: &Scene<'_>, frame: &[Four], part: &Part, room: &mut [Four])
     requires { part_room scene.now part.now ≤ length room.old }
     ensures { result ≡ index_in scene.now frame.now part.now }
 {
-    match &part.place {
-        PartPlace::Bits(_, _) => unknown_bit(),
-        PartPlace::Index(_, _, index) => value(scene, frame, index, room),
-        PartPlace::Word(_, _, index) => value(scene, frame, index, room),
+    match &part.target {
+        PartTarget::Bits(_, _) => unknown_bit(),
+        PartTarget::Index(_, _, index) => value(scene, frame, index, room),
+        PartTarget::Word(_, _, index) => value(scene, frame, index, room),
     }
 }
 
@@ -426,14 +439,14 @@ fn assign(parts: &[Part], value: Four, frame: &mut [Four], indices: &[Four])
 
 // Writes bits to the place of a part: a function has no places but its own variables.
 fn write(part: &Part, index: Four, bits: Four, frame: &mut [Four])
-    ensures { frame.new ≡ written (target_of part.now.place index) bits frame.old }
+    ensures { frame.new ≡ written (target_of part.now.target index) bits frame.old }
 {
-    match &part.place {
-        PartPlace::Bits(variable, low) => put(frame, *variable, Some(Word::from(*low)), bits),
-        PartPlace::Index(variable, least, _) => {
+    match &part.target {
+        PartTarget::Bits(variable, low) => put(frame, *variable, Some(Word::from(*low)), bits),
+        PartTarget::Index(variable, least, _) => {
             put(frame, *variable, index_place(*least, index), bits)
         }
-        PartPlace::Word(_, _, _) => {}
+        PartTarget::Word(_, _, _) => {}
     }
 }
 

@@ -4,6 +4,7 @@
 
 mod bits;
 mod eval;
+mod labels;
 mod ops;
 mod room;
 

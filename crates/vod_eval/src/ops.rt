@@ -2,11 +2,15 @@
 ghost use Rattle.std.specs.Prelude.{◌≡◌, ◌∷◌, [], ◌&&◌, length};
 ghost use Rattle.vod_design.specs.Eval.{unary_bits, binary_bits, less, identical_bit, comparison_bit, compared, logical_bit, reduction_bit, shift_bits};
 ghost use Rattle.vod_bits.specs.Bit.{is_1};
+ghost use Rattle.vod_bits.specs.Value.{upper_bit};
+ghost use Rattle.vod_design.specs.Values.{at_size};
 ghost use Rattle.vod_four.specs.Four.{truth_bit};
+ghost use Rattle.vod_eval.specs.Pieces.{gate_start, gate_table, gate_output};
 ghost use Rattle.vod_eval.specs.Scenes.{operand};
 
-use crate::bits::{at_size, bit, is_one, width};
-use vod_design::{BinaryOp, ComparisonOp, LogicalOp, ReductionOp, ShiftOp, UnaryOp};
+use crate::bits::{at_size, bit, is_one, one, unknown_bit, width, zero};
+use crate::labels::both;
+use vod_design::{BinaryOp, ComparisonOp, GateOp, LogicalOp, ReductionOp, ShiftOp, Size, UnaryOp};
 use vod_four::Four;
 
 // `-` and `~`.
@@ -84,13 +88,6 @@ pub fn compared(op: ComparisonOp, a: Four, a_signed: bool, b: Four, b_signed: bo
     )
 }
 
-// Whether both hold.
-fn both(a: bool, b: bool) -> bool
-    ensures { result ≡ (a && b) }
-{
-    a && b
-}
-
 // `&&` and `||`.
 pub fn logical(op: LogicalOp, a: Four, b: Four) -> Four
     ensures { result ≡ logical_bit op (truth_bit a) (truth_bit b) ∷ [] }
@@ -133,9 +130,65 @@ fn right(signed: bool, amount: Four, a: Four) -> Four
     if signed { a.sar(amount) } else { a.shr(amount) }
 }
 
-// Whether two operands are the same at the larger of their sizes, x and z included.
-pub fn is_identical(a: Four, a_signed: bool, b: Four, b_signed: bool) -> bool
-    ensures { result ≡ is_1 (compared ComparisonOp.CaseEqual (operand a a_signed) (operand b b_signed)) }
+// Whether two values are the same at a size, x and z included.
+#[tactic(auto, using(crate::proofs::Cuts::at_size_length))]
+pub fn is_identical(size: Size, a: Four, b: Four) -> bool
+    ensures { result ≡ is_1 (identical_bit (at_size size.width size.signed a) (at_size size.width size.signed b)) }
 {
-    is_one(compared(ComparisonOp::CaseEqual, a, a_signed, b, b_signed))
+    let one = at_size(a, size.width, size.signed);
+    let other = at_size(b, size.width, size.signed);
+    is_one(identical(one, other))
+}
+
+// What a gate begins with, before its first input.
+pub fn gate_start(op: GateOp) -> Four
+    ensures { result ≡ gate_start op ∷ [] }
+{
+    match op {
+        GateOp::And => one(),
+        GateOp::Nand => one(),
+        GateOp::Or => zero(),
+        GateOp::Nor => zero(),
+        GateOp::Xor => zero(),
+        GateOp::Xnor => zero(),
+        GateOp::Buf => unknown_bit(),
+        GateOp::Not => unknown_bit(),
+    }
+}
+
+// What a gate makes of its inputs so far and one more.
+#[tactic(auto, using(crate::proofs::Gates::zip_one, crate::proofs::Gates::one_bit))]
+pub fn gate_table(op: GateOp, so_far: Four, input: Four) -> Four
+    requires so_far { length so_far ≡ 1 }
+    requires input { length input ≡ 1 }
+    ensures { result ≡ gate_table op (upper_bit so_far) (upper_bit input) ∷ [] }
+{
+    match op {
+        GateOp::And => so_far.and(input),
+        GateOp::Nand => so_far.and(input),
+        GateOp::Or => so_far.or(input),
+        GateOp::Nor => so_far.or(input),
+        GateOp::Xor => so_far.xor(input),
+        GateOp::Xnor => so_far.xor(input),
+        GateOp::Buf => input,
+        GateOp::Not => input,
+    }
+}
+
+// What a gate makes of all its inputs together.
+#[tactic(auto, using(crate::proofs::Gates::map_one, crate::proofs::Gates::map_twice, crate::proofs::Gates::one_bit))]
+pub fn gate_output(op: GateOp, folded: Four) -> Four
+    requires { length folded ≡ 1 }
+    ensures { result ≡ gate_output op (upper_bit folded) ∷ [] }
+{
+    match op {
+        GateOp::And => folded,
+        GateOp::Nand => folded.not(),
+        GateOp::Or => folded,
+        GateOp::Nor => folded.not(),
+        GateOp::Xor => folded,
+        GateOp::Xnor => folded.not(),
+        GateOp::Buf => folded.not().not(),
+        GateOp::Not => folded.not(),
+    }
 }

@@ -4,7 +4,7 @@ ghost use Rattle.std.specs.Prelude.{◌≡◌, ◌+◌, map, max, length, IfOk};
 ghost use Rattle.vod_eval.specs.Room.{saturated, room_in, call_room, expr_room, statement_room, item_room_of, index_room, most, staged};
 
 use std::alloc::{AllocError, Global};
-use vod_design::{CaseItem, Function, Part, PartPlace, SizedExpr, SizedKind, Statement};
+use vod_design::{CaseItem, Function, Part, PartTarget, SizedExpr, SizedKind, Statement};
 
 /// The room that a call of each function takes. More room than there can be is refused for want of memory.
 pub fn call_rooms(alloc: Global, functions: &[Function]) -> Result<Vec<usize>, AllocError>
@@ -73,6 +73,7 @@ pub fn expr_room(rooms: &[usize], e: &SizedExpr) -> usize
         SizedKind::Call(n, arguments) => {
             staged_room(rooms, arguments.as_slice()).max(room_at(rooms, *n as usize))
         }
+        SizedKind::Gate(_, inputs) => most_room(rooms, inputs.as_slice()),
     }
 }
 
@@ -149,7 +150,7 @@ fn items_room(rooms: &[usize], items: &[CaseItem]) -> usize
 
 // The room of the indices of a left side.
 fn parts_room(rooms: &[usize], parts: &[Part]) -> usize
-    ensures { result ≡ saturated (staged (map (λ p. index_room (room_in rooms.now) p.place) parts.now)) }
+    ensures { result ≡ saturated (staged (map (λ p. index_room (room_in rooms.now) p.target) parts.now)) }
 {
     let mut room = 0;
     for (i, part) in parts.iter().enumerate() {
@@ -160,11 +161,11 @@ fn parts_room(rooms: &[usize], parts: &[Part]) -> usize
 
 // The room of the index of a part.
 fn part_room(rooms: &[usize], part: &Part) -> usize
-    ensures { result ≡ saturated (index_room (room_in rooms.now) part.now.place) }
+    ensures { result ≡ saturated (index_room (room_in rooms.now) part.now.target) }
 {
-    match &part.place {
-        PartPlace::Bits(_, _) => 0,
-        PartPlace::Index(_, _, index) => expr_room(rooms, index),
-        PartPlace::Word(_, _, index) => expr_room(rooms, index),
+    match &part.target {
+        PartTarget::Bits(_, _) => 0,
+        PartTarget::Index(_, _, index) => expr_room(rooms, index),
+        PartTarget::Word(_, _, index) => expr_room(rooms, index),
     }
 }

@@ -1,4 +1,4 @@
-use Rattle.std.proofs.Common.{◌≡◌, sym, ◌∙◌, ap, mod-eq_of_lt}
+use Rattle.std.proofs.Common.{sym, ◌∙◌, ap, mod-eq_of_lt}
 use Rattle.vod_bits.specs.Fields.{number-of_bits}
 use Rattle.vod_bits.specs.Value.{number_of}
 use Rattle.vod_eval.proofs.bits.number.Goals as goal

@@ -1,4 +1,4 @@
-use Rattle.std.proofs.Common.{◌≡◌, length, sym, ◌∙◌, ap}
+use Rattle.std.proofs.Common.{length, sym, ◌∙◌, ap}
 use Rattle.vod_four.specs.Fields.{four_width}
 use Rattle.vod_eval.proofs.bits.width.Goals as goal
 

@@ -1,30 +1,34 @@
 -- The goals of the evaluation: for each kind of expression and of statement, its equations give the measure, the room and the value.
-use Rattle.std.proofs.Common.{◌≡◌, ◌∙◌, ◌+◌, ◌≤◌, ◌<◌, sym, ap, arith, map, flat_map, take, drop, length, length-drop, length-take, refl, ◌-◌}
+use Rattle.std.proofs.Common.{◌≡◌, ◌∙◌, ◌+◌, sym, ap, arith, map, flat_map, take, drop, length, length-drop, length-take, refl, ◌-◌}
 use Rattle.std.proofs.lemmas.List.{take_all}
 use Rattle.vod_design.specs.declared.sized.SizedKind.TheOpen.{SizedKind-F}
-use Rattle.vod_design.specs.declared.sized.SizedKind.TheVariants.{rolls-Index, rolls-WordIndex, rolls-Unary, rolls-Binary, rolls-Comparison, rolls-LogicalNot, rolls-Logical, rolls-Reduction, rolls-Shift, rolls-Conditional, rolls-Concat, rolls-Replicate, rolls-Call, rolls-Number, rolls-Name, rolls-Select, rolls-Word}
-use Rattle.vod_eval.specs.Room.{expr_room, statement_room, item_room_of, most, staged}
-use Rattle.vod_eval.specs.Pieces.{bits_of_option, lowest}
-use Rattle.vod_eval.specs.Scenes.{rooms, calls_of, scene_values, operand, operand_in, bits_in, index_in, part_room, branch_in}
-use Rattle.vod_eval.proofs.Depth.{depth, part_depth, statement_depth, item_depth, base}
-use Rattle.vod_eval.proofs.Layers.{depth_at, room_at, value_at_kind, sign_of}
+use Rattle.vod_design.specs.declared.sized.SizedKind.TheVariants.{rolls-Index, rolls-WordIndex, rolls-Unary, rolls-Binary, rolls-Comparison, rolls-LogicalNot, rolls-Logical, rolls-Reduction, rolls-Shift, rolls-Conditional, rolls-Concat, rolls-Replicate, rolls-Call, rolls-Gate, rolls-Number, rolls-Name, rolls-Select, rolls-Word}
+use Rattle.vod_eval.specs.Room.{expr_room, statement_room, item_room_of}
+use Rattle.vod_eval.specs.Pieces.{lowest, gate_start, gate_table, gate_output}
+use Rattle.vod_eval.specs.Sizes.{common, labels_of}
+use Rattle.vod_eval.proofs.Gates.{one_bit, fold_none, fold_more, gate_is}
+use Rattle.vod_bits.specs.Value.{upper_bit}
+use Rattle.vod_eval.specs.Scenes.{rooms, calls_of, scene_values, operand_in, bits_in, bits_at, input_in, index_in, part_room, branch_in}
+use Rattle.vod_eval.proofs.Depth.{depth, part_depth, statement_depth, item_depth}
+use Rattle.vod_eval.proofs.Layers.{depth_at, room_at, value_at_kind}
 use Rattle.vod_eval.proofs.Lists.{most_item, staged_item, staged_long}
-use Rattle.std.proofs.Common.{◌++◌, ◌*◌, true, false, cond, length-append}
+use Rattle.vod_design.specs.declared.statement.CaseItem.{CaseItem}
+use Rattle.vod_design.specs.declared.statement.Statement.{Statement}
+use Rattle.std.proofs.Common.{List, ◌++◌, ◌∷◌, [], ◌*◌, true, false, cond, length-append, Some}
 use Rattle.vod_four.specs.Four.{truth_bit}
 use Rattle.std.specs.List.{list_any}
 use Rattle.vod_bits.specs.Bit.{is_1}
-use Rattle.vod_design.specs.declared.sized.ComparisonOp.TheVariants as ComparisonOp
 use Rattle.vod_design.specs.declared.statement.Statement.TheOpen.{Statement-F}
 use Rattle.vod_design.specs.declared.statement.Statement.TheVariants.{rolls-Assign, rolls-If, rolls-Case, rolls-Begin, rolls-Empty}
-use Rattle.vod_design.specs.Values.{Frame, Operand, at_size, bounded, word_or_x}
-use Rattle.vod_design.specs.Eval.{compared, repeated}
+use Rattle.vod_design.specs.Values.{Frame, Operand, at_size, bounded, word_or_x, word_at}
+use Rattle.vod_design.specs.Eval.{identical_bit, repeated, fold_inputs, gate_bit}
 use Rattle.vod_design.specs.Run.{result_of, call_below, first_branch, has_label, assigned, in_turn, frame_of, run, nothing, index_bits}
 use Rattle.vod_eval.specs.Room.{call_room, function_room}
 use Rattle.vod_eval.specs.Scenes.{run_in, with_signs}
 use Rattle.vod_eval.proofs.Callable.{calls_at, rooms_at, found_below, most_get, below_base, signs_back, operand_back, assigned_take, call_value}
 use Rattle.vod_eval.proofs.Cuts.{at_size_length, filled_size, lowest_size, lowest_again}
 use Rattle.vod_eval.proofs.Depth.{bodies_depth}
-use Rattle.vod_eval.proofs.Layers.{statement_depth_at, statement_room_at, run_at, item_depth_at, item_room_at, first_at}
+use Rattle.vod_eval.proofs.Layers.{statement_depth_at, statement_room_at, run_at, item_depth_at, item_room_at, first_at, labels_back}
 use Rattle.vod_eval.proofs.Lists.{flat_map_map, flat_take, drop_item, drop_past, any_past, any_here, kept_more}
 use Rattle.vod_eval.proofs.eval.+eval.Goals as goal
 
@@ -84,15 +88,15 @@ case-returns-then-has_label t c =
     let next = map (branch_in c.args.scene.now) (drop (c.loop-item.item-index + 1) c.args.items.now) in
     let split = drop_item c.args.items.now c.loop-item.item-index c.item-item.result c.item-item.is (omega arith) in
     let has = sym c.has_label.ensures ∙ c.if-has_label.true in
-    let labels = sym (ap (has_label (operand_in c.args.scene.now c.loop-item.frame) (operand c.args.tested.now.value c.args.tested.now.signed)) c.as_slice.ensures) ∙ has in
-    let here = first_at (operand_in c.args.scene.now c.loop-item.frame) (operand c.args.tested.now.value c.args.tested.now.signed) (calls_of c.args.scene.now) (scene_values c.args.scene.now) c.item-item.result next (run_in c.args.scene.now c.args.otherwise.now) true labels in
-    let whole = ap (λ xs. first_branch (operand_in c.args.scene.now c.loop-item.frame) (operand c.args.tested.now.value c.args.tested.now.signed) (map (branch_in c.args.scene.now) xs) (run_in c.args.scene.now c.args.otherwise.now) c.loop-item.frame) split ∙ ap (λ (g : Frame → Frame). g c.loop-item.frame) here in
+    let labels = sym (ap (has_label (bits_at c.args.scene.now c.loop-item.frame c.args.size) (at_size c.args.size.width c.args.size.signed c.args.tested)) c.as_slice.ensures) ∙ has in
+    let here = first_at (bits_at c.args.scene.now c.loop-item.frame c.args.size) (at_size c.args.size.width c.args.size.signed c.args.tested) (calls_of c.args.scene.now) (scene_values c.args.scene.now) c.item-item.result next (run_in c.args.scene.now c.args.otherwise.now) true labels in
+    let whole = ap (λ xs. first_branch (bits_at c.args.scene.now c.loop-item.frame c.args.size) (at_size c.args.size.width c.args.size.signed c.args.tested) (map (branch_in c.args.scene.now) xs) (run_in c.args.scene.now c.args.otherwise.now) c.loop-item.frame) split ∙ ap (λ (g : Frame → Frame). g c.loop-item.frame) here in
     rw (← c.loop-item.invariant.same) (c.run.ensures ∙ sym whole ∙ c.loop-item.invariant.left)
 
 pub case-returns : goal.case-returns
 case-returns t c =
     let none = drop_past c.loop-item.item-index c.args.items.now (omega arith) in
-    let left = sym (ap (λ xs. first_branch (operand_in c.args.scene.now c.loop-item.frame) (operand c.args.tested.now.value c.args.tested.now.signed) (map (branch_in c.args.scene.now) xs) (run_in c.args.scene.now c.args.otherwise.now) c.loop-item.frame) none) ∙ c.loop-item.invariant.left in
+    let left = sym (ap (λ xs. first_branch (bits_at c.args.scene.now c.loop-item.frame c.args.size) (at_size c.args.size.width c.args.size.signed c.args.tested) (map (branch_in c.args.scene.now) xs) (run_in c.args.scene.now c.args.otherwise.now) c.loop-item.frame) none) ∙ c.loop-item.invariant.left in
     rw (← c.loop-item.invariant.same) (c.run-2.ensures ∙ left)
 
 pub concat-value-requires : goal.concat-value-requires
@@ -114,15 +118,18 @@ has_label-value-other-requires t c =
 
 pub has_label-returns-then-is_identical : goal.has_label-returns-then-is_identical
 has_label-returns-then-is_identical t c =
-    let back = operand_back (calls_of c.args.scene.now) (scene_values c.args.scene.now) c.args.frame.now c.label-item.result in
-    let is = ap (λ v. is_1 (compared ComparisonOp.CaseEqual (operand c.args.tested.now.value c.args.tested.now.signed) (operand v c.label-item.result.signed))) c.value-other.ensures ∙ ap (λ o. is_1 (compared ComparisonOp.CaseEqual (operand c.args.tested.now.value c.args.tested.now.signed) o)) back in
+    let size = c.args.size in
+    let tested = at_size size.width size.signed c.args.tested in
+    let is = ap (λ v. is_1 (identical_bit tested (at_size size.width size.signed v))) c.value-other.ensures in
     let test = sym (c.is_identical.ensures ∙ is) ∙ c.if-is_identical.true in
-    sym (any_here (λ label. is_1 (compared ComparisonOp.CaseEqual (operand c.args.tested.now.value c.args.tested.now.signed) (operand_in c.args.scene.now c.args.frame.now label))) c.args.labels.now c.loop-label.label-index c.label-item.result c.label-item.is (omega arith) test) ∙ c.loop-label.invariant
+    sym (any_here (λ label. is_1 (identical_bit tested (bits_at c.args.scene.now c.args.frame.now size label))) c.args.labels.now c.loop-label.label-index c.label-item.result c.label-item.is (omega arith) test) ∙ c.loop-label.invariant
 
 pub has_label-returns : goal.has_label-returns
 has_label-returns t c =
+    let size = c.args.size in
+    let tested = at_size size.width size.signed c.args.tested in
     let none = drop_past c.loop-label.label-index c.args.labels.now (omega arith) in
-    sym (ap (λ ls. list_any (λ label. is_1 (compared ComparisonOp.CaseEqual (operand c.args.tested.now.value c.args.tested.now.signed) (operand_in c.args.scene.now c.args.frame.now label))) ls) none) ∙ c.loop-label.invariant
+    sym (ap (λ ls. list_any (λ label. is_1 (identical_bit tested (bits_at c.args.scene.now c.args.frame.now size label))) ls) none) ∙ c.loop-label.invariant
 
 pub indices-bounds-room-i : goal.indices-bounds-room-i
 indices-bounds-room-i t c = omega (arith, staged_long (part_room c.args.scene.now) c.args.parts.now)
@@ -163,8 +170,8 @@ run-run-requires-else-is_true t c =
     let r = statement_room_at (rooms c.args.scene.now) c.args.statement.now (Statement-F.If c.in-If.test c.in-If.taken c.in-If.other) (c.in-If.is ∙ sym (rolls-If c.in-If.test c.in-If.taken c.in-If.other)) in
     (grind (arith, d), grind (arith, r))
 
-pub run-value-requires : goal.run-value-requires
-run-value-requires t c =
+pub run-value-tested-requires : goal.run-value-tested-requires
+run-value-tested-requires t c =
     let d = statement_depth_at c.args.statement.now (Statement-F.Case c.in-Case.tested c.in-Case.items c.in-Case.otherwise) (c.in-Case.is ∙ sym (rolls-Case c.in-Case.tested c.in-Case.items c.in-Case.otherwise)) in
     let r = statement_room_at (rooms c.args.scene.now) c.args.statement.now (Statement-F.Case c.in-Case.tested c.in-Case.items c.in-Case.otherwise) (c.in-Case.is ∙ sym (rolls-Case c.in-Case.tested c.in-Case.items c.in-Case.otherwise)) in
     (grind (arith, d), grind (arith, r))
@@ -204,8 +211,21 @@ run-returns-else-is_true t c =
 
 pub run-returns-in-Case : goal.run-returns-in-Case
 run-returns-in-Case t c =
-    let back = operand_back (calls_of c.args.scene.now) (scene_values c.args.scene.now) c.args.frame.now c.in-Case.tested in
-    rw (c.case.ensures, c.as_slice-in-Case.ensures, c.get-in-Case.ensures, c.value.ensures, back) (sym (run_at (calls_of c.args.scene.now) (scene_values c.args.scene.now) c.args.frame.now c.args.statement.now (Statement-F.Case c.in-Case.tested c.in-Case.items c.in-Case.otherwise) (c.in-Case.is ∙ sym (rolls-Case c.in-Case.tested c.in-Case.items c.in-Case.otherwise))))
+    let tested = c.in-Case.tested in
+    let items = c.in-Case.items in
+    let other = run_in c.args.scene.now c.in-Case.otherwise in
+    let frame = c.args.frame.now in
+    let scene = c.args.scene.now in
+    let size : c.case_size-size.result ≡ common (tested ∷ labels_of items) = c.case_size-size.ensures ∙ ap (λ is. common (tested ∷ labels_of is)) c.as_slice-items.ensures in
+    let labels : labels_of items ≡ flat_map (λ item. item.labels) (map (branch_in scene) items) = labels_back (calls_of scene) (scene_values scene) items in
+    let size_is = c.case_size-size.result in
+    let chosen = λ (is : List CaseItem) (s : Statement). first_branch (bits_at scene frame size_is) (at_size size_is.width size_is.signed c.value-tested.result) (map (branch_in scene) is) (run_in scene s) frame in
+    let labelled : c.case.new.frame ≡ chosen items c.get-in-Case.result.now = c.case.ensures ∙ ap (λ is. chosen is c.get-in-Case.result.now) c.as_slice-items.ensures in
+    let taken : c.case.new.frame ≡ chosen items c.in-Case.otherwise = labelled ∙ ap (chosen items) c.get-in-Case.ensures in
+    taken ∙ ap (λ v. first_branch (bits_at scene frame c.case_size-size.result) (at_size c.case_size-size.result.width c.case_size-size.result.signed v) (map (branch_in scene) items) other frame) c.value-tested.ensures
+    ∙ ap (λ s. first_branch (bits_at scene frame s) (bits_at scene frame s tested) (map (branch_in scene) items) other frame) size
+    ∙ ap (λ ls. first_branch (bits_at scene frame (common (tested ∷ ls))) (bits_at scene frame (common (tested ∷ ls)) tested) (map (branch_in scene) items) other frame) labels
+    ∙ sym (run_at (calls_of scene) (scene_values scene) frame c.args.statement.now (Statement-F.Case tested items c.in-Case.otherwise) (c.in-Case.is ∙ sym (rolls-Case tested items c.in-Case.otherwise)))
 
 pub run-returns-in-Begin : goal.run-returns-in-Begin
 run-returns-in-Begin t c =
@@ -346,6 +366,58 @@ unsized_value-call-requires t c =
     let r = room_at (rooms c.args.scene.now) c.args.e.now (SizedKind-F.Call c.in-Call.n c.in-Call.arguments) (c.in-Call.is ∙ sym (rolls-Call c.in-Call.n c.in-Call.arguments)) in
     (grind (arith, d), grind (arith, r))
 
+pub unsized_value-folded-requires : goal.unsized_value-folded-requires
+unsized_value-folded-requires t c =
+    let d = depth_at c.args.e.now (SizedKind-F.Gate c.in-Gate.op c.in-Gate.inputs) (c.in-Gate.is ∙ sym (rolls-Gate c.in-Gate.op c.in-Gate.inputs)) in
+    let r = room_at (rooms c.args.scene.now) c.args.e.now (SizedKind-F.Gate c.in-Gate.op c.in-Gate.inputs) (c.in-Gate.is ∙ sym (rolls-Gate c.in-Gate.op c.in-Gate.inputs)) in
+    (grind (arith, d), grind (arith, r))
+
+pub unsized_value-gate_output-requires : goal.unsized_value-gate_output-requires
+unsized_value-gate_output-requires t c = ap length c.folded.ensures
+
+pub unsized_value-returns-in-Gate : goal.unsized_value-returns-in-Gate
+unsized_value-returns-in-Gate t c =
+    let op = c.in-Gate.op in
+    let inputs = c.in-Gate.inputs in
+    let scene = c.args.scene.now in
+    let frame = c.args.frame.now in
+    let bits = flat_map (input_in scene frame) inputs in
+    let folded : c.folded.result ≡ fold_inputs (gate_table op) (gate_start op) bits ∷ [] = c.folded.ensures ∙ ap (λ xs. fold_inputs (gate_table op) (gate_start op) (flat_map (input_in scene frame) xs) ∷ []) c.as_slice-in-Gate.ensures in
+    let back : bits ≡ flat_map (λ (o : Operand). at_size 1 false o.bits) (map (operand_in scene frame) inputs) = sym (flat_map_map (λ (o : Operand). at_size 1 false o.bits) (operand_in scene frame) inputs) in
+    ap (at_size c.args.e.now.width c.args.e.now.signed) (c.gate_output.ensures ∙ ap (λ b. gate_output op (upper_bit b) ∷ []) folded ∙ ap (λ b. b ∷ []) (gate_is op bits) ∙ ap (λ bs. gate_bit op bs ∷ []) back)
+    ∙ sym (value_at_kind (calls_of scene) (scene_values scene) frame c.args.e.now (SizedKind-F.Gate op inputs) (c.in-Gate.is ∙ sym (rolls-Gate op inputs)))
+
+pub folded-value-input-requires : goal.folded-value-input-requires
+folded-value-input-requires t c =
+    let d = most_item depth c.args.inputs.now c.loop-input.input-index c.input-item.result c.input-item.is (omega arith) in
+    let r = most_item (expr_room (rooms c.args.scene.now)) c.args.inputs.now c.loop-input.input-index c.input-item.result c.input-item.is (omega arith) in
+    (grind (arith, d), grind (arith, r))
+
+pub folded-loop-input-init : goal.folded-loop-input-init
+folded-loop-input-init t c = c.gate_start-so_far.ensures ∙ ap (λ b. b ∷ []) (fold_none (gate_table c.args.op) (gate_start c.args.op))
+
+pub folded-gate_table-so_far-requires-clause-input : goal.folded-gate_table-so_far-requires-clause-input
+folded-gate_table-so_far-requires-clause-input t c = ap length c.at_size.ensures ∙ at_size_length 1 false c.value-input.result
+
+pub folded-loop-input-preserved : goal.folded-loop-input-preserved
+folded-loop-input-preserved t c =
+    let f = input_in c.args.scene.now c.args.frame.now in
+    let xs = c.args.inputs.now in
+    let i = c.loop-input.input-index in
+    let op = c.args.op in
+    let start = fold_inputs (gate_table op) (gate_start op) (flat_map f (take i xs)) in
+    let input : c.at_size.result ≡ f c.input-item.result = c.at_size.ensures ∙ ap (at_size 1 false) c.value-input.ensures in
+    let whole : f c.input-item.result ≡ upper_bit (f c.input-item.result) ∷ [] = one_bit (f c.input-item.result) (at_size_length 1 false _) in
+    c.gate_table-so_far.ensures ∙ ap (λ b. gate_table op (upper_bit b) (upper_bit c.at_size.result) ∷ []) c.loop-input.invariant
+    ∙ ap (λ b. gate_table op start (upper_bit b) ∷ []) input
+    ∙ sym (ap (λ b. b ∷ []) (ap (λ bs. fold_inputs (gate_table op) (gate_start op) bs) (flat_take f xs i c.input-item.result c.input-item.is (omega arith) ∙ ap (λ bs. flat_map f (take i xs) ++ bs) whole)
+    ∙ fold_more (gate_table op) (gate_start op) (flat_map f (take i xs)) (upper_bit (f c.input-item.result))))
+
+pub folded-returns : goal.folded-returns
+folded-returns t c =
+    let whole = take_all c.loop-input.input-index c.args.inputs.now (omega arith) in
+    c.loop-input.invariant ∙ ap (λ xs. fold_inputs (gate_table c.args.op) (gate_start c.args.op) (flat_map (input_in c.args.scene.now c.args.frame.now) xs) ∷ []) whole
+
 pub unsized_value-returns-in-Number : goal.unsized_value-returns-in-Number
 unsized_value-returns-in-Number t c =
     let v = value_at_kind (calls_of c.args.scene.now) (scene_values c.args.scene.now) c.args.frame.now c.args.e.now (SizedKind-F.Number c.in-Number.bits) (c.in-Number.is ∙ sym (rolls-Number c.in-Number.bits)) in
@@ -367,7 +439,7 @@ unsized_value-returns-in-Index t c =
 
 pub unsized_value-returns-in-Word : goal.unsized_value-returns-in-Word
 unsized_value-returns-in-Word t c =
-    ap (at_size c.args.e.now.width c.args.e.now.signed) (c.word.ensures ∙ ap (λ p. word_or_x (bounded c.args.e.now.width) ((scene_values c.args.scene.now).word c.in-Word.memory p)) c.from.ensures) ∙ sym (value_at_kind (calls_of c.args.scene.now) (scene_values c.args.scene.now) c.args.frame.now c.args.e.now (SizedKind-F.Word c.in-Word.memory c.in-Word.place) (c.in-Word.is ∙ sym (rolls-Word c.in-Word.memory c.in-Word.place)))
+    ap (at_size c.args.e.now.width c.args.e.now.signed) (c.word.ensures ∙ ap (λ p. word_or_x (bounded c.in-Word.memory.width) (word_at (scene_values c.args.scene.now) c.in-Word.memory.number (Some p))) c.from.ensures) ∙ sym (value_at_kind (calls_of c.args.scene.now) (scene_values c.args.scene.now) c.args.frame.now c.args.e.now (SizedKind-F.Word c.in-Word.memory c.in-Word.place) (c.in-Word.is ∙ sym (rolls-Word c.in-Word.memory c.in-Word.place)))
 
 pub unsized_value-returns-in-WordIndex : goal.unsized_value-returns-in-WordIndex
 unsized_value-returns-in-WordIndex t c =
@@ -486,10 +558,11 @@ concat-loop-part-preserved t c =
 
 pub has_label-loop-label-preserved : goal.has_label-loop-label-preserved
 has_label-loop-label-preserved t c =
-    let back = operand_back (calls_of c.args.scene.now) (scene_values c.args.scene.now) c.args.frame.now c.label-item.result in
-    let is = ap (λ v. is_1 (compared ComparisonOp.CaseEqual (operand c.args.tested.now.value c.args.tested.now.signed) (operand v c.label-item.result.signed))) c.value-other.ensures ∙ ap (λ o. is_1 (compared ComparisonOp.CaseEqual (operand c.args.tested.now.value c.args.tested.now.signed) o)) back in
+    let size = c.args.size in
+    let tested = at_size size.width size.signed c.args.tested in
+    let is = ap (λ v. is_1 (identical_bit tested (at_size size.width size.signed v))) c.value-other.ensures in
     let test = sym (c.is_identical.ensures ∙ is) ∙ c.if-is_identical.false in
-    any_past (λ label. is_1 (compared ComparisonOp.CaseEqual (operand c.args.tested.now.value c.args.tested.now.signed) (operand_in c.args.scene.now c.args.frame.now label))) c.args.labels.now c.loop-label.label-index c.label-item.result c.label-item.is (omega arith) test ∙ c.loop-label.invariant
+    any_past (λ label. is_1 (identical_bit tested (bits_at c.args.scene.now c.args.frame.now size label))) c.args.labels.now c.loop-label.label-index c.label-item.result c.label-item.is (omega arith) test ∙ c.loop-label.invariant
 
 pub indices-loop-i-preserved : goal.indices-loop-i-preserved
 indices-loop-i-preserved t c =
@@ -500,9 +573,9 @@ case-loop-item-preserved t c =
     let next = map (branch_in c.args.scene.now) (drop (c.loop-item.item-index + 1) c.args.items.now) in
     let split = drop_item c.args.items.now c.loop-item.item-index c.item-item.result c.item-item.is (omega arith) in
     let has = sym c.has_label.ensures ∙ c.if-has_label.false in
-    let labels = sym (ap (has_label (operand_in c.args.scene.now c.loop-item.frame) (operand c.args.tested.now.value c.args.tested.now.signed)) c.as_slice.ensures) ∙ has in
-    let here = first_at (operand_in c.args.scene.now c.loop-item.frame) (operand c.args.tested.now.value c.args.tested.now.signed) (calls_of c.args.scene.now) (scene_values c.args.scene.now) c.item-item.result next (run_in c.args.scene.now c.args.otherwise.now) false labels in
-    let whole = ap (λ xs. first_branch (operand_in c.args.scene.now c.loop-item.frame) (operand c.args.tested.now.value c.args.tested.now.signed) (map (branch_in c.args.scene.now) xs) (run_in c.args.scene.now c.args.otherwise.now) c.loop-item.frame) split ∙ ap (λ (g : Frame → Frame). g c.loop-item.frame) here in
+    let labels = sym (ap (has_label (bits_at c.args.scene.now c.loop-item.frame c.args.size) (at_size c.args.size.width c.args.size.signed c.args.tested)) c.as_slice.ensures) ∙ has in
+    let here = first_at (bits_at c.args.scene.now c.loop-item.frame c.args.size) (at_size c.args.size.width c.args.size.signed c.args.tested) (calls_of c.args.scene.now) (scene_values c.args.scene.now) c.item-item.result next (run_in c.args.scene.now c.args.otherwise.now) false labels in
+    let whole = ap (λ xs. first_branch (bits_at c.args.scene.now c.loop-item.frame c.args.size) (at_size c.args.size.width c.args.size.signed c.args.tested) (map (branch_in c.args.scene.now) xs) (run_in c.args.scene.now c.args.otherwise.now) c.loop-item.frame) split ∙ ap (λ (g : Frame → Frame). g c.loop-item.frame) here in
     record { same = c.loop-item.invariant.same; left = sym whole ∙ c.loop-item.invariant.left }
 
 pub part_index-returns-in-Bits : goal.part_index-returns-in-Bits

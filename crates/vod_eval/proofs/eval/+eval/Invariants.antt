@@ -1,7 +1,9 @@
-use Rattle.std.proofs.Common.{◌≡◌, ◌+◌, ◌≤◌, ◌*◌, max, map, flat_map, take, drop}
-use Rattle.vod_eval.specs.Pieces.{bits_of_option, lowest}
+use Rattle.std.proofs.Common.{◌≡◌, ◌+◌, ◌*◌, max, ◌∷◌, [], map, flat_map, take, drop}
+use Rattle.vod_eval.specs.Pieces.{bits_of_option, lowest, gate_start, gate_table}
+use Rattle.vod_design.specs.Values.{at_size}
+use Rattle.vod_design.specs.Eval.{fold_inputs}
 use Rattle.vod_design.specs.Run.{in_turn, has_label, first_branch}
-use Rattle.vod_eval.specs.Scenes.{operand, run_in, operand_in, bits_in, index_in, branch_in}
+use Rattle.vod_eval.specs.Scenes.{run_in, bits_in, bits_at, input_in, index_in, branch_in}
 use Rattle.vod_eval.specs.Room.{most}
 use Rattle.vod_eval.proofs.Depth.{depth, part_depth, statement_depth, item_depth, base}
 use Rattle.vod_eval.proofs.eval.+eval.Given as goal
@@ -14,6 +16,9 @@ decreases-unsized_value l = base l.scene.now + 5 * depth l.e.now + 1
 
 abbrev pub decreases-concat : goal.decreases-concat
 decreases-concat l = base l.scene.now + 5 * most (map depth l.parts.now) + 4
+
+abbrev pub decreases-folded : goal.decreases-folded
+decreases-folded l = base l.scene.now + 5 * most (map depth l.inputs.now) + 4
 
 abbrev pub decreases-call : goal.decreases-call
 decreases-call l = base l.scene.now + 5 * most (map depth l.arguments.now) + 5
@@ -42,6 +47,9 @@ decreases-part_index l = base l.scene.now + 5 * part_depth l.part.now + 3
 abbrev pub invariant-concat-loop-part : goal.invariant-concat-loop-part
 invariant-concat-loop-part l = bits_of_option l.bits ≡ lowest (flat_map (bits_in l.scene l.frame) (take l.part-index l.parts))
 
+abbrev pub invariant-folded-loop-input : goal.invariant-folded-loop-input
+invariant-folded-loop-input l = l.so_far ≡ fold_inputs (gate_table l.op) (gate_start l.op) (flat_map (input_in l.scene l.frame) (take l.input-index l.inputs)) ∷ []
+
 abbrev pub invariant-values-loop-i : goal.invariant-values-loop-i
 invariant-values-loop-i l = take l.i l.room ≡ map (bits_in l.scene l.frame) (take l.i l.exprs)
 
@@ -54,13 +62,13 @@ invariant-run_all-loop-statement l =
 
 abbrev pub invariant-has_label-loop-label : goal.invariant-has_label-loop-label
 invariant-has_label-loop-label l =
-    has_label (operand_in l.scene l.frame) (operand l.tested.value l.tested.signed) (drop l.label-index l.labels)
-    ≡ has_label (operand_in l.scene l.frame) (operand l.tested.value l.tested.signed) l.labels
+    has_label (bits_at l.scene l.frame l.size) (at_size l.size.width l.size.signed l.tested) (drop l.label-index l.labels)
+    ≡ has_label (bits_at l.scene l.frame l.size) (at_size l.size.width l.size.signed l.tested) l.labels
 
 abbrev pub invariant-case-loop-item : goal.invariant-case-loop-item
 invariant-case-loop-item l = record {
   same : l.frame ≡ l.fn.frame;
   left :
-      first_branch (operand_in l.scene l.frame) (operand l.tested.value l.tested.signed) (map (branch_in l.scene) (drop l.item-index l.items)) (run_in l.scene l.otherwise) l.frame
-      ≡ first_branch (operand_in l.scene l.frame) (operand l.tested.value l.tested.signed) (map (branch_in l.scene) l.items) (run_in l.scene l.otherwise) l.frame;
+      first_branch (bits_at l.scene l.frame l.size) (at_size l.size.width l.size.signed l.tested) (map (branch_in l.scene) (drop l.item-index l.items)) (run_in l.scene l.otherwise) l.frame
+      ≡ first_branch (bits_at l.scene l.frame l.size) (at_size l.size.width l.size.signed l.tested) (map (branch_in l.scene) l.items) (run_in l.scene l.otherwise) l.frame;
 }

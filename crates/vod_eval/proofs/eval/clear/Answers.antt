@@ -1,4 +1,4 @@
-use Rattle.std.proofs.Common.{◌≡◌, ◌+◌, ◌++◌, ◌∷◌, [], ◌∙◌, sym, ap, map, take, drop, length, get_or, arith}
+use Rattle.std.proofs.Common.{◌+◌, ◌++◌, ◌∷◌, [], ◌∙◌, sym, ap, map, take, drop, get_or, arith}
 use Rattle.std.proofs.Math.ListN.{set}
 use Rattle.vod_eval.specs.Scenes.{unknown_of}
 use Rattle.vod_eval.proofs.Enter.{no_size}

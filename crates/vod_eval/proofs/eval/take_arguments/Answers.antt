@@ -1,4 +1,4 @@
-use Rattle.std.proofs.Common.{◌≡◌, ◌+◌, ◌++◌, ◌∷◌, [], ◌∙◌, sym, ap, take, drop, length, length-take, get_or, slice_get, option_map, arith}
+use Rattle.std.proofs.Common.{◌≡◌, ◌+◌, ◌++◌, ◌∙◌, sym, ap, take, drop, length, length-take, get_or, slice_get, option_map, arith}
 use Rattle.std.proofs.Math.ListN.{set}
 use Rattle.vod_design.specs.Run.{entered}
 use Rattle.vod_eval.specs.Scenes.{operand, with_signs, input_bits}

@@ -1,8 +1,8 @@
 -- The room of each kind of expression, by its equation.
-use Rattle.std.proofs.Common.{◌≡◌, ◌∙◌, ◌+◌, max, sym, ap, arith, map, take}
+use Rattle.std.proofs.Common.{◌≡◌, ◌∙◌, max, sym, ap, arith, map}
 use Rattle.vod_design.specs.declared.sized.SizedKind.TheOpen.{SizedKind-F}
-use Rattle.vod_design.specs.declared.sized.SizedKind.TheVariants.{rolls-Index, rolls-WordIndex, rolls-Unary, rolls-Binary, rolls-Comparison, rolls-LogicalNot, rolls-Logical, rolls-Reduction, rolls-Shift, rolls-Conditional, rolls-Concat, rolls-Replicate, rolls-Call, rolls-Number, rolls-Name, rolls-Select, rolls-Word}
-use Rattle.vod_eval.specs.Room.{room_in, saturated, expr_room, most, staged}
+use Rattle.vod_design.specs.declared.sized.SizedKind.TheVariants.{rolls-Index, rolls-WordIndex, rolls-Unary, rolls-Binary, rolls-Comparison, rolls-LogicalNot, rolls-Logical, rolls-Reduction, rolls-Shift, rolls-Conditional, rolls-Concat, rolls-Replicate, rolls-Call, rolls-Gate, rolls-Number, rolls-Name, rolls-Select, rolls-Word}
+use Rattle.vod_eval.specs.Room.{room_in, saturated, expr_room, staged}
 use Rattle.vod_eval.proofs.Layers.{room_at}
 use Rattle.vod_eval.proofs.Lists.{most_take, staged_take}
 use Rattle.vod_eval.proofs.room.+expr.Goals as goal
@@ -76,6 +76,11 @@ expr_room-returns-in-Call t c =
     let m : c.max-in-Call.result ≡ max c.staged_room.result c.room_at.result = c.max-in-Call.ensures in
     let n : c.room_at.result ≡ room_in c.args.rooms.now c.in-Call.n = c.room_at.ensures in
     omega arith
+
+pub expr_room-returns-in-Gate : goal.expr_room-returns-in-Gate
+expr_room-returns-in-Gate t c =
+    let r = room_at (room_in c.args.rooms.now) c.args.e.now (SizedKind-F.Gate c.in-Gate.field-0 c.in-Gate.inputs) (c.in-Gate.is ∙ sym (rolls-Gate c.in-Gate.field-0 c.in-Gate.inputs)) in
+    grind (arith, r)
 
 pub expr_room-returns-in-Number : goal.expr_room-returns-in-Number
 expr_room-returns-in-Number t c =

@@ -1,5 +1,5 @@
 -- The room of each kind of statement, by its equation.
-use Rattle.std.proofs.Common.{◌≡◌, ◌∙◌, ◌+◌, max, sym, ap, arith, map, take}
+use Rattle.std.proofs.Common.{◌≡◌, ◌∙◌, max, sym, ap, arith, map}
 use Rattle.vod_design.specs.declared.statement.Part.{Part}
 use Rattle.vod_design.specs.declared.statement.Statement.TheOpen.{Statement-F}
 use Rattle.vod_design.specs.declared.statement.Statement.TheVariants.{rolls-Assign, rolls-If, rolls-Case, rolls-Begin, rolls-Empty}
@@ -10,7 +10,7 @@ use Rattle.vod_eval.proofs.room.+statement.Goals as goal
 
 pub statement_room-returns-in-Assign : goal.statement_room-returns-in-Assign
 statement_room-returns-in-Assign t c =
-    let index = λ (p : Part). index_room (room_in c.args.rooms.now) p.place in
+    let index = λ (p : Part). index_room (room_in c.args.rooms.now) p.target in
     let r : statement_room (room_in c.args.rooms.now) c.args.statement.now ≡ max (expr_room (room_in c.args.rooms.now) c.in-Assign.right) (staged (map index c.in-Assign.parts))
     = statement_room_at (room_in c.args.rooms.now) c.args.statement.now (Statement-F.Assign c.in-Assign.parts c.in-Assign.right) (c.in-Assign.is ∙ sym (rolls-Assign c.in-Assign.parts c.in-Assign.right)) in
     let s : c.parts_room.result ≡ saturated (staged (map index c.in-Assign.parts)) = c.parts_room.ensures ∙ ap (λ ps. saturated (staged (map index ps))) c.as_slice.ensures in

@@ -1,5 +1,5 @@
-use Rattle.std.proofs.Common.{◌≡◌, ◌+◌, ◌++◌, ◌∷◌, [], ◌∙◌, suc, ap, sym, arith, add-one, length}
-use Rattle.vod_eval.specs.Room.{room_in, saturated, call_room, statement_room}
+use Rattle.std.proofs.Common.{◌≡◌, ◌+◌, ◌++◌, ◌∷◌, [], ◌∙◌, suc, ap, arith, add-one, length}
+use Rattle.vod_eval.specs.Room.{room_in, call_room, statement_room}
 use Rattle.vod_eval.proofs.Lists.{get_there}
 use Rattle.vod_eval.proofs.Tables.{table, table_of, next_room}
 use Rattle.vod_eval.proofs.room.call_rooms.Goals as goal

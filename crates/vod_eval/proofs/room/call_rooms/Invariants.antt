@@ -1,5 +1,4 @@
 use Rattle.std.proofs.Common.{◌≡◌}
-use Rattle.vod_eval.specs.Room.{call_room}
 use Rattle.vod_eval.proofs.Tables.{table_of}
 use Rattle.vod_eval.proofs.room.call_rooms.Given as goal
 
