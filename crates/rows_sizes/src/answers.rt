@@ -71,6 +71,7 @@ fn print_fault(rt: &impl Print, fault: WidthFault) -> io::Result<()> {
     match fault {
         WidthFault::Rule { place } => println!(rt; "rule at {place}"),
         WidthFault::Width { place } => println!(rt; "width at {place}"),
+        WidthFault::Open => rt.println("open"),
         WidthFault::Memory => rt.println("memory"),
     }
 }
@@ -181,6 +182,7 @@ pub fn print_message(rt: &impl Print, fault: &str) -> io::Result<()> {
         Some(("width", place)) => place.parse().ok().map(|place| WidthFault::Width { place }),
         Some(_) => None,
         None if fault == "memory" => Some(WidthFault::Memory),
+        None if fault == "open" => Some(WidthFault::Open),
         None => None,
     };
     match fault {

@@ -4,7 +4,9 @@
 //! - `NAME:parameter:DIGITS` and `NAME:signed_parameter:DIGITS`: a constant;
 //! - `NAME:ram:LEAST:DIGITS:..`: a memory, its least index, and its words from there on;
 //! - `NAME:function:WIDTH:INPUT` and `NAME:function_of_signed:WIDTH:INPUT`: a function that gives its input, the widths of its
-//!   result and its input.
+//!   result and its input;
+//! - `NAME:open_net`, `NAME:open_parameter`, `NAME:open_ram` and `NAME:open_function`: a name whose size, range or value couldn't be
+//!   formed.
 use crate::functions::{copy, inputs};
 use rows_digits::{named, value, width};
 use sqlite_items::Items;
@@ -21,9 +23,10 @@ enum Sort {
     Parameter(bool),
     Ram,
     Function(bool),
+    Open(vod_width::Sort),
 }
 
-const SORTS: [(&str, Sort); 8] = [
+const SORTS: [(&str, Sort); 12] = [
     ("unsigned", Sort::Vector(false)),
     ("signed", Sort::Vector(true)),
     ("bit", Sort::Bit),
@@ -32,6 +35,10 @@ const SORTS: [(&str, Sort); 8] = [
     ("ram", Sort::Ram),
     ("function", Sort::Function(false)),
     ("function_of_signed", Sort::Function(true)),
+    ("open_net", Sort::Open(vod_width::Sort::Net)),
+    ("open_parameter", Sort::Open(vod_width::Sort::Constant)),
+    ("open_ram", Sort::Open(vod_width::Sort::Ram)),
+    ("open_function", Sort::Open(vod_width::Sort::Function)),
 ];
 
 /// What the values of names are.
@@ -180,6 +187,7 @@ fn sorted(
         (Sort::Parameter(signed), [digits]) => Ok(parameter(signed, digits)),
         (Sort::Ram, [least, digits @ ..]) => ram(alloc, world, least, digits),
         (Sort::Function(signed), [output, input]) => function(alloc, world, signed, output, input),
+        (Sort::Open(sort), []) => Ok(Some(Declared::Open(sort))),
         _ => Ok(None),
     }
 }

@@ -4,8 +4,8 @@ use Rattle.vod_bits.specs.Bit.{Bit, B0, B1, BX, BZ, is_1, bit_if, or_bit}
 use Rattle.vod_bits.specs.Value.{upper_bit, fold_bits, slice_bits}
 use Rattle.vod_design.specs.Run.{eval, nothing}
 use Rattle.vod_design.specs.declared.sized.SizedExpr.{SizedExpr}
-use Rattle.vod_operand.specs.Operands.{Looked, own, are_none, is_sound, natural}
-use Rattle.vod_operand.specs.Found.{SeesAs, known_natural, natural_of}
+use Rattle.vod_operand.specs.Operands.{Looked, own, are_none, is_sound, natural, known_natural}
+use Rattle.vod_operand.specs.Found.{SeesAs, natural_of}
 use Rattle.vod_operand.specs.FoundLaws.{here}
 use Rattle.vod_operand.specs.declared.tree.Looked as code
 

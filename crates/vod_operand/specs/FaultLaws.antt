@@ -1,16 +1,28 @@
 -- The first of several faults.
-use Rattle.std.proofs.Common.{◌≡◌, nat_lt, Bool, true, false, cond, List, [], ◌∷◌, ◌++◌, Option, None, Some, refl, sym, ◌∙◌, ap, arith}
+use Rattle.std.proofs.Common.{◌≡◌, ℕ, nat_lt, Bool, true, false, cond, List, [], ◌∷◌, ◌++◌, Option, None, Some, refl, sym, ◌∙◌, ap, arith}
 use Rattle.std.proofs.lemmas.Bool.Decides.{nat_tests}
 use Rattle.vod_operand.specs.declared.fault.Fault.{Fault}
-use Rattle.vod_operand.specs.Operands.{place_of, sooner, join, first, are_none}
+use Rattle.vod_operand.specs.Operands.{place_of, stands_before, sooner, join, first, are_none}
 
-tested : (p q r : Bool) (x f g : Fault) → p ≡ nat_lt (place_of g) (place_of f) → q ≡ nat_lt (place_of f) (place_of x) → r ≡ nat_lt (place_of g) (place_of x)
+before_trans : (a b c : Option ℕ) → true ≡ stands_before a b → true ≡ stands_before b c → stands_before a c ≡ true
+before_trans None b c p q = absurd (cc)
+before_trans (Some a) None c p q = absurd (cc)
+before_trans (Some a) (Some b) None p q = refl
+before_trans (Some a) (Some b) (Some c) p q = grind (arith, nat_tests)
+
+pub not_before : (a b c : Option ℕ) → false ≡ stands_before a b → false ≡ stands_before b c → stands_before a c ≡ false
+not_before None b c p q = refl
+not_before (Some a) None c p q = absurd (cc)
+not_before (Some a) (Some b) None p q = absurd (cc)
+not_before (Some a) (Some b) (Some c) p q = grind (arith, nat_tests)
+
+tested : (p q r : Bool) (x f g : Fault) → p ≡ stands_before (place_of g) (place_of f) → q ≡ stands_before (place_of f) (place_of x) → r ≡ stands_before (place_of g) (place_of x)
     → sooner x (cond p g f) ≡ sooner (cond q f x) g
 tested true true true x f g a b c = rw (← a, ← c) refl
-tested true true false x f g a b c = absurd (grind (arith, nat_tests))
+tested true true false x f g a b c = let h = before_trans (place_of g) (place_of f) (place_of x) a b in absurd (cc)
 tested true false r x f g a b c = refl
 tested false true r x f g a b c = rw (← a, ← b) refl
-tested false false true x f g a b c = absurd (grind (arith, nat_tests))
+tested false false true x f g a b c = let h = not_before (place_of g) (place_of f) (place_of x) a b in absurd (cc)
 tested false false false x f g a b c = rw (← b, ← c) refl
 
 join_assoc : (a b c : Option Fault) → join a (join b c) ≡ join (join a b) c

@@ -144,10 +144,6 @@ single_of sign.Xor = singles.Reduction reduction.Xor
 single_of sign.Xnor = singles.Reduction reduction.Xnor
 single_of sign.XorNot = singles.Reduction reduction.Xnor
 
--- the natural number of a part that has no faults
-abbrev pub known_natural : Looked → Option ℕ
-known_natural x = if is_sound x then natural x else None
-
 abbrev pub natural_of : Bool → Bool → List Bit → Option ℕ
 natural_of constant signed bits = if constant && (all_known bits && not (signed && is_1 (upper_bit bits))) then Some (number_of bits) else None
 
@@ -164,7 +160,11 @@ abbrev pub tree_unless : Option Fault → SizedKind → Result SizedExpr Fault
 tree_unless None k = Ok (node 0 false k)
 tree_unless (Some f) k = Err f
 
--- the first fault of a part that has to be a number: inside it, or that it isn't one
-abbrev pub part_fault_of : Bool → ℕ → Result SizedExpr Fault → Option Fault
-part_fault_of found place (Ok t) = fault_if (not found) place
-part_fault_of found place (Err f) = Some f
+-- the first fault of an expression with a fault inside it that has to be constant
+abbrev pub fault_beside : Fault → Bool → ℕ → Fault
+fault_beside fault constant place = if constant then fault else sooner fault (Rule place)
+
+-- the first fault of a part that has to be a number: inside it, that it isn't constant, or that it isn't one
+abbrev pub part_fault_of : Bool → Bool → ℕ → Result SizedExpr Fault → Option Fault
+part_fault_of constant found place (Ok t) = fault_if (not found) place
+part_fault_of constant found place (Err f) = Some (fault_beside f constant place)

@@ -3,8 +3,10 @@ use Rattle.std.proofs.Common.{◌≡◌, Option, None, Result, Ok, Err, IfOk, sy
 use Rattle.vod_design.specs.declared.sized.SizedExpr.{SizedExpr}
 use Rattle.vod_design.specs.declared.sized.SizedKind.{SizedKind}
 use Rattle.vod_operand.specs.declared.fault.Fault.{Fault}
-use Rattle.vod_operand.specs.Found.{TreeIs, Sees, looked_of, SeesAs, known_natural, part_fault_of, tree_unless}
-use Rattle.vod_operand.specs.Operands.{Looked, first, node, are_none, is_sound, natural, meets, unless}
+use Rattle.vod_operand.specs.Found.{TreeIs, Sees, looked_of, SeesAs, fault_beside, part_fault_of, tree_unless}
+use Rattle.vod_operand.specs.Operands.{Looked, first, join, node, are_none, is_sound, value, natural, known_natural, meets, may_be, unless}
+use Rattle.vod_bits.specs.Bit.{is_1}
+use Rattle.vod_bits.specs.Value.{number_of, upper_bit, all_known}
 use Rattle.vod_operand.specs.declared.fault.Fault.TheVariants.{Rule}
 use Rattle.vod_operand.specs.FaultLaws.{first_append, join_none, sound_none, unsound, first_nothing}
 use Rattle.vod_operand.specs.declared.tree.Looked as code
@@ -36,24 +38,33 @@ gone c y f u e s =
     let P : Result SizedExpr Fault → Type 0 = λ z. TreeIs z (first y.faults) u in
     subst P (sym e) s.tree
 
-fault_ok : (b m : Bool) (place : ℕ) (fs : List Fault) (n : Option ℕ) (test : ℕ → Bool) → b ≡ true → fs ≡ [] → m ≡ meets test n
-    → cond (not (meets test (cond b n None))) (Some (Rule place)) None ≡ first (fs ++ cond (b && not m) (Rule place ∷ []) [])
-fault_ok true true place fs n test p q h = rw (q, ← h) refl
-fault_ok true false place fs n test p q h = rw (q, ← h) refl
-fault_ok false m place fs n test p q h = absurd (cc)
+-- an expression with a fault inside that has to be constant
+pub beside_first : (k b m : Bool) (place : ℕ) (fs : List Fault) (f : Fault) → b ≡ false → first fs ≡ Some f → first (fs ++ cond (k && cond b m true) [] (Rule place ∷ [])) ≡ Some (fault_beside f k place)
+beside_first k true m place fs f p q = absurd (cc)
+beside_first true false m place fs f p q = first_nothing fs ∙ q
+beside_first false false m place fs f p q = first_append fs (Rule place ∷ []) ∙ ap (λ z. join z (Some (Rule place))) q
 
-fault_gone : (b m : Bool) (place : ℕ) (fs : List Fault) (f : Fault) → b ≡ false → first fs ≡ Some f → Some f ≡ first (fs ++ cond (b && not m) (Rule place ∷ []) [])
-fault_gone true m place fs f p q = absurd (cc)
-fault_gone false m place fs f p q = sym q ∙ sym (first_nothing fs)
+fault_ok : (b k m : Bool) (place : ℕ) (fs : List Fault) (n : Option ℕ) (test : ℕ → Bool) → b ≡ true → fs ≡ [] → m ≡ meets test n → (k ≡ false → n ≡ None)
+    → cond (not (meets test (cond b n None))) (Some (Rule place)) None ≡ first (fs ++ cond (k && cond b m true) [] (Rule place ∷ []))
+fault_ok false k m place fs n test p q h none = absurd (cc)
+fault_ok true true true place fs n test p q h none = rw (q, ← h) refl
+fault_ok true true false place fs n test p q h none = rw (q, ← h) refl
+fault_ok true false m place fs n test p q h none = rw (q, none refl) refl
+
+no_number : (y : Looked) → y.constant ≡ false → natural y ≡ None
+no_number y h = ap (λ k. cond (k && (all_known (value y) && not (y.signed && is_1 (upper_bit (value y))))) (Some (number_of (value y))) None) h
 
 fault_cases : (t : Result SizedExpr Fault) (test : ℕ → Bool) (y : Looked) (u : SizedExpr) → TreeIs t (first y.faults) u
-    → part_fault_of (meets test (known_natural y)) y.place t ≡ first (y.faults ++ unless test y)
-fault_cases (Ok t) test y u h = fault_ok (is_sound y) (meets test (natural y)) y.place y.faults (natural y) test (ap are_none (sound_none y.faults h.0)) (sound_none y.faults h.0) refl
-fault_cases (Err f) test y u h = fault_gone (is_sound y) (meets test (natural y)) y.place y.faults f (unsound y.faults f h) h
+    → part_fault_of y.constant (meets test (known_natural y)) y.place t ≡ first (y.faults ++ unless test y)
+fault_cases (Ok t) test y u h =
+    fault_ok (is_sound y) y.constant (meets test (natural y)) y.place y.faults (natural y) test (ap are_none (sound_none y.faults h.0)) (sound_none y.faults h.0) refl (no_number y)
+fault_cases (Err f) test y u h = sym (beside_first y.constant (is_sound y) (meets test (natural y)) y.place y.faults f (unsound y.faults f h) h)
 
 -- the first fault of a part that has to be a number for which a test holds
-pub part_fault_is : (test : ℕ → Bool) (c : code.Looked) (y : Looked) (u : SizedExpr) → SeesAs c y u → part_fault_of (meets test (known_natural y)) c.place c.tree ≡ first (y.faults ++ unless test y)
-part_fault_is test c y u s = ap (λ p. part_fault_of (meets test (known_natural y)) p c.tree) s.place ∙ fault_cases c.tree test y u s.tree
+pub part_fault_is : (test : ℕ → Bool) (c : code.Looked) (y : Looked) (u : SizedExpr) → SeesAs c y u
+    → part_fault_of c.constant (meets test (known_natural y)) c.place c.tree ≡ first (y.faults ++ unless test y)
+part_fault_is test c y u s =
+    ap (λ k. part_fault_of k (meets test (known_natural y)) c.place c.tree) s.constant ∙ ap (λ p. part_fault_of y.constant (meets test (known_natural y)) p c.tree) s.place ∙ fault_cases c.tree test y u s.tree
 
 -- a part without faults is a number for which the test holds
 pub record Passed (test : ℕ → Bool) (y : Looked) : Type 0 where
@@ -62,19 +73,25 @@ pub record Passed (test : ℕ → Bool) (y : Looked) : Type 0 where
   pub known : known_natural y ≡ Some number
   pub holds : test number ≡ true
 
-held : (b : Bool) (place : ℕ) → first (cond (not b) (Rule place ∷ []) []) ≡ None → b ≡ true
+held : (b : Bool) (place : ℕ) → first (cond b [] (Rule place ∷ [])) ≡ None → b ≡ true
 held true place h = refl
 held false place h = absurd (cc)
 
-passed_by : (test : ℕ → Bool) (y : Looked) (b : Bool) (n : Option ℕ) → natural y ≡ n → b ≡ is_sound y → y.faults ≡ [] → first (cond (b && not (meets test n)) (Rule y.place ∷ []) []) ≡ None → Passed test y
+passed_by : (test : ℕ → Bool) (y : Looked) (b : Bool) (n : Option ℕ) → natural y ≡ n → b ≡ is_sound y → y.faults ≡ [] → (y.constant && cond b (meets test n) true) ≡ true → Passed test y
 passed_by test y false n p q h e = absurd (cc)
-passed_by test y true None p q h e = absurd (cc)
-passed_by test y true (Some n) p q h e = record { number = n; is = p; known = ap (λ b. cond b (natural y) None) (sym q) ∙ p; holds = held (test n) y.place e }
+passed_by test y true None p q h e = absurd (not_both y.constant e) where
+  not_both : (k : Bool) → (k && false) ≡ true → ⊥
+  not_both true e = absurd (cc)
+  not_both false e = absurd (cc)
+passed_by test y true (Some n) p q h e = record { number = n; is = p; known = ap (λ b. cond b (natural y) None) (sym q) ∙ p; holds = second y.constant (test n) e } where
+  second : (k b : Bool) → (k && b) ≡ true → b ≡ true
+  second true b e = e
+  second false b e = absurd (cc)
 
 pub passed : (test : ℕ → Bool) (y : Looked) → first (y.faults ++ unless test y) ≡ None → Passed test y
 passed test y h =
     let parts = join_none (first y.faults) (first (unless test y)) (sym (first_append y.faults (unless test y)) ∙ h) in
-    passed_by test y (is_sound y) (natural y) refl refl (sound_none y.faults parts.0) parts.1
+    passed_by test y (is_sound y) (natural y) refl refl (sound_none y.faults parts.0) (held (may_be test y) y.place parts.1)
 
 -- a tree of a kind where there are no faults
 pub unless_is : (f g : Option Fault) (k l : SizedKind) → f ≡ g → (g ≡ None → k ≡ l) → TreeIs (tree_unless f k) g (node 0 false l)

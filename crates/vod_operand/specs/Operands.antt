@@ -10,7 +10,7 @@ use Rattle.vod_design.specs.Values.{bounded, at_size}
 use Rattle.vod_design.specs.Run.{eval, nothing}
 use Rattle.vod_design.specs.declared.sized.SizedKind.TheVariants as kind
 use Rattle.vod_operand.specs.declared.fault.Fault.{Fault}
-use Rattle.vod_operand.specs.declared.fault.Fault.TheVariants.{Rule, Width}
+use Rattle.vod_operand.specs.declared.fault.Fault.TheVariants.{Rule, Width, Open}
 
 -- what an expression is by itself: the place of its first token, its size and sign, whether it is constant, the faults inside it, and
 -- how it stands where it is evaluated at a size and sign
@@ -50,6 +50,10 @@ value x = eval [] nothing [] (own x)
 abbrev pub natural : Looked → Option ℕ
 natural x = if x.constant && (all_known (value x) && not (x.signed && is_1 (upper_bit (value x)))) then Some (number_of (value x)) else None
 
+-- the same where nothing in it is at fault
+abbrev pub known_natural : Looked → Option ℕ
+known_natural x = if is_sound x then natural x else None
+
 abbrev pub meets : (ℕ → Bool) → Option ℕ → Bool
 meets test None = false
 meets test (Some n) = test n
@@ -58,9 +62,13 @@ meets test (Some n) = test n
 abbrev pub number_where : (ℕ → Bool) → Looked → Option ℕ
 number_where test x = if is_sound x && meets test (natural x) then natural x else None
 
--- an expression that has to be such a number, and isn't, is at fault there; one with faults inside brings no other
+-- whether an expression is constant and, as far as nothing in it is at fault, a number for which a test holds
+abbrev pub may_be : (ℕ → Bool) → Looked → Bool
+may_be test x = x.constant && (if is_sound x then meets test (natural x) else true)
+
+-- an expression that has to be such a number, and isn't, is at fault at its first token, beside the faults inside it
 abbrev pub unless : (ℕ → Bool) → Looked → List Fault
-unless test x = if is_sound x && not (meets test (natural x)) then Rule x.place ∷ [] else []
+unless test x = if may_be test x then [] else Rule x.place ∷ []
 
 -- a number has its own size and sign (3.5.1)
 abbrev pub look_number : Number → Looked
@@ -70,14 +78,22 @@ look_number n = looked (bounded n.size) n.signed true [] (λ w s. node w s (kind
 abbrev pub at_place : ℕ → Looked → Looked
 at_place place x = record x { place = place; faults = x.faults ++ (if nat_lt WIDTH x.width then Width place ∷ [] else []) }
 
--- where a fault stands among others: by its place, and at one place that a rule fails stands before a width
-abbrev pub place_of : Fault → ℕ
-place_of (Rule place) = 2 * place
-place_of (Width place) = 2 * place + 1
+-- where a fault stands among others: by its place, and at one place that a rule fails stands before a width. That something is open has
+-- no place
+abbrev pub place_of : Fault → Option ℕ
+place_of (Rule place) = Some (2 * place)
+place_of (Width place) = Some (2 * place + 1)
+place_of Open = None
+
+-- whether one stands before another; what has no place stands behind every place
+abbrev pub stands_before : Option ℕ → Option ℕ → Bool
+stands_before None q = false
+stands_before (Some p) None = true
+stands_before (Some p) (Some q) = nat_lt p q
 
 -- the sooner of two faults
 abbrev pub sooner : Fault → Fault → Fault
-sooner f g = if nat_lt (place_of g) (place_of f) then g else f
+sooner f g = if stands_before (place_of g) (place_of f) then g else f
 
 -- the sooner of two faults, where there are some
 abbrev pub join : Option Fault → Option Fault → Option Fault

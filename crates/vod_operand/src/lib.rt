@@ -8,7 +8,7 @@ mod operators;
 mod refit;
 mod tree;
 
-pub use fault::{Fault, fault_if, join, sooner};
+pub use fault::{Fault, fault_beside, fault_if, join, sooner};
 pub use number::{literal, natural, part_fault, value};
 pub use operators::{binary, conditional, unary};
 pub use tree::{

@@ -6,10 +6,10 @@ ghost use Rattle.vod_design.specs.declared.sized.SizedKind.TheVariants as kind;
 ghost use Rattle.vod_design.specs.Values.{bounded, at_size};
 ghost use Rattle.vod_design.specs.Run.{eval, nothing};
 ghost use Rattle.vod_eval.specs.Room.{room_of};
-ghost use Rattle.vod_operand.specs.Operands.{Looked as Found, node, own};
-ghost use Rattle.vod_operand.specs.Found.{looked_of, SeesAs, known_natural, natural_of, part_fault_of};
+ghost use Rattle.vod_operand.specs.Operands.{Looked as Found, node, own, known_natural};
+ghost use Rattle.vod_operand.specs.Found.{looked_of, SeesAs, natural_of, part_fault_of};
 
-use crate::fault::{Fault, fault_if};
+use crate::fault::{Fault, fault_beside, fault_if};
 use crate::tree::{Looked, both_hold, unsized_node};
 use std::alloc::{AllocError, Global};
 use vod_bits::{Bits, WIDTH, Word};
@@ -119,12 +119,12 @@ pub fn natural(alloc: Global, x: &Looked) -> Result<Option<Word>, AllocError>
     }
 }
 
-/// The fault of a part that has to be a number: the first one inside it, or that no number was found.
+/// The first fault of a part that has to be a number: one inside it, that it isn't constant, or that no number was found.
 pub fn part_fault(x: &Looked, found: bool) -> Option<Fault>
-    ensures { result ≡ part_fault_of found x.now.place x.now.tree }
+    ensures { result ≡ part_fault_of x.now.constant found x.now.place x.now.tree }
 {
     match &x.tree {
         Ok(_) => fault_if(!found, x.place),
-        Err(f) => Some(*f),
+        Err(f) => Some(fault_beside(*f, x.constant, x.place)),
     }
 }

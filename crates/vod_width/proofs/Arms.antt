@@ -21,12 +21,13 @@ use Rattle.vod_operand.specs.FoundLaws.{sees_of}
 use Rattle.vod_operand.specs.declared.tree.Looked as code
 use Rattle.vod_width.specs.declared.decls.Declared.{Declared}
 use Rattle.vod_width.specs.Names.{Declaration}
-use Rattle.vod_width.specs.Sizes.{is_constant, look_name, look_kind, look, inside}
+use Rattle.vod_width.specs.Sizes.{is_constant, misused, left_open, look_name, look_kind, look, inside}
 use Rattle.vod_width.specs.View.{SeesParts, TreeNear, SeesKind, named_of}
 use Rattle.vod_width.proofs.Layers.{Layer, kind_look, look_at, inside_at}
 use Rattle.vod_width.proofs.Whole.{refits, narrow}
-use Rattle.vod_width.proofs.Ranges.{misused_sees}
+use Rattle.vod_width.proofs.Ranges.{misused_sees, open_sees}
 use Rattle.vod_width.specs.declared.decls.Declared.TheVariants as stands
+use Rattle.vod_width.specs.declared.decls.Sort.TheVariants as sorts
 use Rattle.vod_width.specs.declared.parts.Parts as parts
 
 pub saw : (decls : List Declaration) (c : code.Looked) (e : Expr) → Sees c (look decls e) → Saw c (look decls e)
@@ -79,6 +80,10 @@ named_sees c place (Some (stands.Vector v)) e =
     kind_sees c (look_name place (Some (stands.Vector v))) (sees_of c (look_name place (Some (stands.Vector v))) (min v.width 65) v.signed (is_constant v.name) (Ok (node 0 false (kind.Name v.name))) e refl refl refl refl (refl, refl))
 named_sees c place (Some (stands.Ram m)) e = kind_sees c (look_name place (Some (stands.Ram m))) (misused_sees c place None [] e refl)
 named_sees c place (Some (stands.Function f)) e = kind_sees c (look_name place (Some (stands.Function f))) (misused_sees c place None [] e refl)
+named_sees c place (Some (stands.Open sorts.Net)) e = kind_sees c (left_open 0 false []) (open_sees c 0 false false None [] e (omega arith) refl refl)
+named_sees c place (Some (stands.Open sorts.Constant)) e = kind_sees c (left_open 0 true []) (open_sees c 0 true true None [] e (omega arith) refl refl)
+named_sees c place (Some (stands.Open sorts.Ram)) e = kind_sees c (misused place []) (misused_sees c place None [] e refl)
+named_sees c place (Some (stands.Open sorts.Function)) e = kind_sees c (misused place []) (misused_sees c place None [] e refl)
 named_sees c place None e = kind_sees c (look_name place None) (misused_sees c place None [] e refl)
 
 -- what was found of parts that references show

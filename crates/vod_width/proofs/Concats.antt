@@ -19,11 +19,13 @@ use Rattle.vod_operand.specs.FoundLaws.{tree_moved, passed, sees_of}
 use Rattle.vod_operand.specs.declared.tree.Looked as code
 use Rattle.vod_width.specs.declared.decls.Declared.{Declared}
 use Rattle.vod_width.specs.Sizes.{or_zero, have_sizes, total, input_width, sized_arguments, look_concat, look_replicate, look_call}
-use Rattle.vod_width.specs.View.{TreeNear, SeesKind, SeesParts, TreesAre, faults_of, with_tree_of, concat_tree_of, replicate_tree_of, inputs_of, call_tree_of, fault_of_trees}
+use Rattle.vod_width.specs.View.{IsNumbered, TreeNear, SeesKind, SeesParts, TreesAre, faults_of, with_tree_of, concat_tree_of, replicate_tree_of, inputs_of, call_tree_of, fault_of_trees}
 use Rattle.vod_width.specs.Calls.{called_of, width_of}
 use Rattle.vod_width.proofs.Selects.{passed_where}
-use Rattle.vod_width.proofs.Ranges.{misused_sees}
+use Rattle.vod_width.proofs.Ranges.{misused_sees, open_sees}
 use Rattle.vod_width.specs.declared.decls.Declared.TheVariants as stands
+use Rattle.vod_width.specs.declared.decls.Sort.TheVariants as sorts
+use Rattle.vod_width.specs.declared.limit.Numbered as limit
 use Rattle.vod_width.specs.declared.parts.Parts as parts
 
 concat_tree_is : (ts : Result (List SizedExpr) Fault) (f : Option Fault) (us : List SizedExpr) → TreesAre ts f us → TreeIs (concat_tree_of ts) f (node 0 false (kind.Concat us))
@@ -127,19 +129,19 @@ replicate_near None (Err g) x ys count width f h n w = first_append (x.faults ++
 replicate_near (Some e) (Ok ts) x ys count width f h n w = first_append (x.faults ++ unless (nat_lt 0) x) (faults_of ys) ∙ ap (λ z. join z (first (faults_of ys))) (sym f) ∙ ap (join (Some e)) h.0
 replicate_near (Some e) (Err g) x ys count width f h n w = first_append (x.faults ++ unless (nat_lt 0) x) (faults_of ys) ∙ ap (λ z. join z (first (faults_of ys))) (sym f) ∙ ap (join (Some e)) h
 
-pub replicate_sees : (c : code.Looked) (p : parts.Parts) (x : Looked) (ys : List Looked) (number : Option ℕ) (fault : Option Fault) (n count width w : ℕ) (concat t : Result SizedExpr Fault)
-    → SeesParts p ys → number ≡ number_where (nat_lt 0) x → fault ≡ first (x.faults ++ unless (nat_lt 0) x) → n ≡ or_zero number → width ≡ cond p.sized p.width 0 → concat ≡ concat_tree_of p.trees
-    → count ≡ min n 64 → t ≡ replicate_tree_of fault count width concat → w ≡ min (n * width) 65 → c ≡ looked_of 0 w false p.constant t → SeesKind c (look_replicate x ys)
-replicate_sees c p x ys number fault n count width w concat t s m f z v q k r l e =
-    let N : n ≡ or_zero (number_where (nat_lt 0) x) = z ∙ ap or_zero m in
+pub replicate_sees : (c : code.Looked) (p : parts.Parts) (x : Looked) (ys : List Looked) (counted : limit.Numbered) (n count width w : ℕ) (k : Bool) (concat t : Result SizedExpr Fault)
+    → SeesParts p ys → IsNumbered (nat_lt 0) counted x → n ≡ or_zero counted.number → width ≡ cond p.sized p.width 0 → k ≡ (counted.constant && p.constant) → concat ≡ concat_tree_of p.trees
+    → count ≡ min n 64 → t ≡ replicate_tree_of counted.fault count width concat → w ≡ min (n * width) 65 → c ≡ looked_of 0 w false k t → SeesKind c (look_replicate x ys)
+replicate_sees c p x ys counted n count width w k concat t s m z v b q l r j e =
+    let N : n ≡ or_zero (number_where (nat_lt 0) x) = z ∙ ap or_zero m.number in
     let W : width ≡ min (total ys) 65 = v ∙ total_is p ys s in
     let P : code.Looked → Type 0 = λ d. SeesKind d (look_replicate x ys) in
     let Q : Result SizedExpr Fault → Type 0 = λ u. TreeNear u (look_replicate x ys) in
     subst P (sym e) (record {
-      width = l ∙ ap (λ j. min (n * j) 65) W ∙ times_total n (total ys) ∙ ap (λ j. min (j * total ys) 65) N;
+      width = j ∙ ap (λ i. min (n * i) 65) W ∙ times_total n (total ys) ∙ ap (λ i. min (i * total ys) 65) N;
       signed = refl;
-      constant = s.constant;
-      tree = subst Q (sym (r ∙ ap (replicate_tree_of fault count width) q)) (replicate_near fault p.trees x ys count width f s.trees (k ∙ ap (λ j. min j 64) N) W);
+      constant = b ∙ ap (λ i. i && p.constant) m.constant ∙ ap (λ i. x.constant && i) s.constant;
+      tree = subst Q (sym (r ∙ ap (replicate_tree_of counted.fault count width) q)) (replicate_near counted.fault p.trees x ys count width m.fault s.trees (l ∙ ap (λ i. min i 64) N) W);
     })
 
 -- calls
@@ -157,6 +159,11 @@ call_sees c place (Some (stands.Function f)) ts ys e h =
     sees_of c (look_call place (Some (stands.Function f)) ys) (min f.width 65) f.signed false (call_tree_of f.number ts) e refl refl refl refl (call_tree_is f.number ts (first (faults_of ys)) (sized_arguments f.inputs ys) h)
 call_sees c place (Some (stands.Vector v)) ts ys e h = misused_sees c place (fault_of_trees ts) (faults_of ys) e (trees_fault ts (first (faults_of ys)) (sized_arguments [] ys) h)
 call_sees c place (Some (stands.Ram m)) ts ys e h = misused_sees c place (fault_of_trees ts) (faults_of ys) e (trees_fault ts (first (faults_of ys)) (sized_arguments [] ys) h)
+call_sees c place (Some (stands.Open sorts.Net)) ts ys e h = misused_sees c place (fault_of_trees ts) (faults_of ys) e (trees_fault ts (first (faults_of ys)) (sized_arguments [] ys) h)
+call_sees c place (Some (stands.Open sorts.Constant)) ts ys e h = misused_sees c place (fault_of_trees ts) (faults_of ys) e (trees_fault ts (first (faults_of ys)) (sized_arguments [] ys) h)
+call_sees c place (Some (stands.Open sorts.Ram)) ts ys e h = misused_sees c place (fault_of_trees ts) (faults_of ys) e (trees_fault ts (first (faults_of ys)) (sized_arguments [] ys) h)
+call_sees c place (Some (stands.Open sorts.Function)) ts ys e h =
+    open_sees c 0 false false (fault_of_trees ts) (faults_of ys) e (omega arith) refl (trees_fault ts (first (faults_of ys)) (sized_arguments [] ys) h)
 call_sees c place None ts ys e h = misused_sees c place (fault_of_trees ts) (faults_of ys) e (trees_fault ts (first (faults_of ys)) (sized_arguments [] ys) h)
 
 pub argument_sees : (c x : code.Looked) (y : Looked) (least w : ℕ) (s : Bool) → SeesAs c y (y.sized w s) → Saw x y → w ≡ max least x.width → s ≡ x.signed → SeesAs c y (y.sized (max least y.width) y.signed)

@@ -9,16 +9,16 @@ use Rattle.vod_bits.specs.Value.{all_known}
 use Rattle.vod_design.specs.declared.sized.SizedExpr.{SizedExpr}
 use Rattle.vod_design.specs.Run.{eval, nothing}
 use Rattle.vod_operand.specs.declared.fault.Fault.{Fault}
-use Rattle.vod_operand.specs.declared.fault.Fault.TheVariants.{Rule, Width}
-use Rattle.vod_operand.specs.Operands.{Looked, own, place_of, first, are_none, is_sound, value, join}
-use Rattle.vod_operand.specs.Found.{SeesAs, IsNarrow}
-use Rattle.vod_operand.specs.FaultLaws.{first_append, unsound, first_nothing}
-use Rattle.vod_operand.specs.FoundLaws.{here, gone}
+use Rattle.vod_operand.specs.declared.fault.Fault.TheVariants.{Rule, Width, Open}
+use Rattle.vod_operand.specs.Operands.{Looked, own, place_of, stands_before, first, are_none, is_sound, value, join}
+use Rattle.vod_operand.specs.Found.{TreeIs, Sees, SeesAs, IsNarrow, fault_of, fault_beside}
+use Rattle.vod_operand.specs.FaultLaws.{not_before, sound_none, unsound}
+use Rattle.vod_operand.specs.FoundLaws.{here, gone, beside_first}
 use Rattle.vod_operand.specs.declared.tree.Looked as code
 use Rattle.vod_width.specs.declared.types.Constant.{Constant}
 use Rattle.vod_width.specs.declared.types.WidthFault.{WidthFault}
 use Rattle.vod_width.specs.Sizes.{in_context, constant_faults}
-use Rattle.vod_width.specs.Refusals.{Refused, HasNoValue, refusal_of, fault_beside}
+use Rattle.vod_width.specs.Refusals.{Refused, HasNoValue, refusal_of}
 use Rattle.vod_width.specs.declared.types.WidthFault.TheVariants as refusals
 
 pub sized_here : (c : code.Looked) (x : Looked) (e : SizedExpr) (context w own_width : ℕ) (s : Bool) → Ok e ≡ c.tree → SeesAs c x (x.sized w s) → IsNarrow x → w ≡ max context own_width → own_width ≡ min x.width 65 → s ≡ x.signed
@@ -29,20 +29,33 @@ sized_here c x e context w own_width s t h n p q r =
     let exact : w ≡ max context x.width = omega (arith, p, q, narrow) in
     (found.0, found.1 ∙ ap (λ k. x.sized k s) exact ∙ ap (x.sized (max context x.width)) r)
 
+-- where there is a tree there is no fault
+no_fault_of : (t : Result SizedExpr Fault) (f : Option Fault) (u : SizedExpr) → None ≡ fault_of t → TreeIs t f u → f ≡ None
+no_fault_of (Ok t) f u n h = h.0
+no_fault_of (Err e) f u n h = absurd (cc)
+
+the_fault_of : (t : Result SizedExpr Fault) (f : Option Fault) (g : Fault) (u : SizedExpr) → Some g ≡ fault_of t → TreeIs t f u → f ≡ Some g
+the_fault_of (Ok t) f g u n h = absurd (cc)
+the_fault_of (Err e) f g u n h = h ∙ sym n
+
+pub own_here : (c : code.Looked) (x : Looked) → None ≡ fault_of c.tree → Sees c x → IsNarrow x → (x.faults ≡ []) × (c.width ≡ x.width) × (c.signed ≡ x.signed) × (c.constant ≡ x.constant)
+own_here c x t s narrow =
+    let none = no_fault_of c.tree (first x.faults) (x.sized 0 false) t s.tree in
+    let small = narrow none in
+    (sound_none x.faults none, omega (arith, s.width, small), s.signed, s.constant)
+
+pub own_gone : (c : code.Looked) (x : Looked) (f : Fault) → Some f ≡ fault_of c.tree → Sees c x → first x.faults ≡ Some f
+own_gone c x f t s = the_fault_of c.tree (first x.faults) f (x.sized 0 false) t s.tree
+
 pub refused : (f : Fault) (fs : List Fault) → first fs ≡ Some f → Refused (refusal_of f) fs
 refused (Rule place) fs h = h
 refused (Width place) fs h = h
-
--- an expression with a fault inside that has to be constant
-beside_first : (k b a : Bool) (fs : List Fault) (f : Fault) (place : ℕ) → first fs ≡ Some f → b ≡ false → first (fs ++ cond (k && cond b a true) [] (Rule place ∷ [])) ≡ Some (fault_beside f k place)
-beside_first k true a fs f place h e = absurd (cc)
-beside_first true false a fs f place h e = first_nothing fs ∙ h
-beside_first false false a fs f place h e = first_append fs (Rule place ∷ []) ∙ ap (λ z. join z (Some (Rule place))) h
+refused Open fs h = h
 
 pub constant_gone : (c : code.Looked) (y : Looked) (f : Fault) → Err f ≡ c.tree → SeesAs c y (own y) → Refused (refusal_of (fault_beside f c.constant c.place)) (constant_faults y)
 constant_gone c y f t h =
     let inner = gone c y f (own y) t h in
-    let whole : first (constant_faults y) ≡ Some (fault_beside f y.constant y.place) = beside_first y.constant (is_sound y) (all_known (value y)) y.faults f y.place inner (unsound y.faults f inner) in
+    let whole : first (constant_faults y) ≡ Some (fault_beside f y.constant y.place) = beside_first y.constant (is_sound y) (all_known (value y)) y.place y.faults f (unsound y.faults f inner) inner in
     refused (fault_beside f c.constant c.place) (constant_faults y) (whole ∙ ap (λ k. Some (fault_beside f k y.place)) (sym h.constant) ∙ ap (λ p. Some (fault_beside f c.constant p)) (sym h.place))
 
 -- one without a fault inside
@@ -69,6 +82,7 @@ known_is : (r : Result Constant WidthFault) (y : Looked) → y.faults ≡ [] →
 known_is (Ok c) y e h = (no_fault y.faults y.constant (is_sound y) (all_known (value y)) y.place e h.0 h.1, h.2, h.3)
 known_is (Err (refusals.Rule p)) y e h = one_fault y.faults y.constant (is_sound y) (all_known (value y)) y.place p e (ap are_none e) h.0 h.1
 known_is (Err (refusals.Width p)) y e h = absurd h
+known_is (Err refusals.Open) y e h = absurd h
 known_is (Err refusals.Memory) y e h = tt
 
 pub constant_here : (r : Result Constant WidthFault) (c : code.Looked) (y : Looked) (e : SizedExpr) → Ok e ≡ c.tree → SeesAs c y (own y) → IsKnown r (eval [] nothing [] e) c.constant c.signed c.place → IsConstant r y
@@ -80,18 +94,31 @@ constant_here r c y e t h known =
     let D : ℕ → Type 0 = λ p. IsKnown r (value y) y.constant y.signed p in
     known_is r y found.0 (subst D h.place (subst C h.signed (subst B h.constant (subst A found.1 known))))
 
--- the first fault is the least
-least_if : (t : Bool) (x g : Fault) (n : ℕ) → t ≡ nat_lt (place_of g) (place_of x) → n ≤ place_of (cond t g x) → (n ≤ place_of x) × (n ≤ place_of g)
-least_if true x g n e h = (grind (arith, nat_tests), h)
-least_if false x g n e h = (h, grind (arith, nat_tests))
+-- the first fault is the least: none stands before it
+before_by : (a b c : Option ℕ) → true ≡ stands_before a b → stands_before a c ≡ false → stands_before b c ≡ false
+before_by None b c p h = absurd (cc)
+before_by (Some a) None c p h = refl
+before_by (Some a) (Some b) None p h = absurd (cc)
+before_by (Some a) (Some b) (Some c) p h = grind (arith, nat_tests)
 
-least_step : (x : Fault) (fs : List Fault) (n : ℕ) (o : Option Fault) → (IfSome o (λ g. n ≤ place_of g) → All (λ g. n ≤ place_of g) fs) → IfSome (join (Some x) o) (λ g. n ≤ place_of g) → All (λ g. n ≤ place_of g) (x ∷ fs)
-least_step x fs n None ih h = All-cons (λ g. n ≤ place_of g) x fs h (ih tt)
-least_step x fs n (Some g) ih h = let both = least_if (nat_lt (place_of g) (place_of x)) x g n refl h in All-cons (λ g. n ≤ place_of g) x fs both.0 (ih both.1)
+abbrev NotBefore : Option ℕ → Fault → Type 0
+NotBefore n g = stands_before (place_of g) n ≡ false
 
-pub at_least : (fs : List Fault) (n : ℕ) → IfSome (first fs) (λ g. n ≤ place_of g) → All (λ g. n ≤ place_of g) fs
-at_least [] n h = All-nil (λ g. n ≤ place_of g)
+least_if : (t : Bool) (x g : Fault) (n : Option ℕ) → t ≡ stands_before (place_of g) (place_of x) → NotBefore n (cond t g x) → NotBefore n x × NotBefore n g
+least_if true x g n e h = (before_by (place_of g) (place_of x) n e h, h)
+least_if false x g n e h = (h, not_before (place_of g) (place_of x) n e (sym h))
+
+least_step : (x : Fault) (fs : List Fault) (n : Option ℕ) (o : Option Fault) → (IfSome o (NotBefore n) → All (NotBefore n) fs) → IfSome (join (Some x) o) (NotBefore n) → All (NotBefore n) (x ∷ fs)
+least_step x fs n None ih h = All-cons (NotBefore n) x fs h (ih tt)
+least_step x fs n (Some g) ih h = let both = least_if (stands_before (place_of g) (place_of x)) x g n refl h in All-cons (NotBefore n) x fs both.0 (ih both.1)
+
+at_least : (fs : List Fault) (n : Option ℕ) → IfSome (first fs) (NotBefore n) → All (NotBefore n) fs
+at_least [] n h = All-nil (NotBefore n)
 at_least (x ∷ fs) n h = least_step x fs n (first fs) (at_least fs n) h
+
+not_itself : (n : Option ℕ) → stands_before n n ≡ false
+not_itself None = refl
+not_itself (Some n) = grind (arith, nat_tests)
 
 head_in : (x f : Fault) (fs : List Fault) → x ≡ f → Contains (x ∷ fs) f
 head_in x f fs e = (0, omega arith, e)
@@ -102,14 +129,13 @@ in_if false x g f fs h e = let same : x ≡ f = cc in head_in x f fs same
 
 in_step : (x f : Fault) (fs : List Fault) (o : Option Fault) → ((g : Fault) → o ≡ Some g → Contains fs g) → join (Some x) o ≡ Some f → Contains (x ∷ fs) f
 in_step x f fs None ih e = let same : x ≡ f = cc in head_in x f fs same
-in_step x f fs (Some g) ih e = in_if (nat_lt (place_of g) (place_of x)) x g f fs (ih g refl) e
+in_step x f fs (Some g) ih e = in_if (stands_before (place_of g) (place_of x)) x g f fs (ih g refl) e
 
 pub first_in : (fs : List Fault) (f : Fault) → first fs ≡ Some f → Contains fs f
 first_in [] f h = absurd (cc)
 first_in (x ∷ fs) f h = in_step x f fs (first fs) (first_in fs) h
 
-pub first_least : (fs : List Fault) (f : Fault) → first fs ≡ Some f → Contains fs f × All (λ g. place_of f ≤ place_of g) fs
+pub first_least : (fs : List Fault) (f : Fault) → first fs ≡ Some f → Contains fs f × All (λ g. stands_before (place_of g) (place_of f) ≡ false) fs
 first_least fs f h =
-    let P : Option Fault → Type 0 = λ o. IfSome o (λ g. place_of f ≤ place_of g) in
-    let here : place_of f ≤ place_of f = omega arith in
-    (first_in fs f h, at_least fs (place_of f) (subst P (sym h) here))
+    let P : Option Fault → Type 0 = λ o. IfSome o (NotBefore (place_of f)) in
+    (first_in fs f h, at_least fs (place_of f) (subst P (sym h) (not_itself (place_of f))))

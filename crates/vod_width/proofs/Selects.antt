@@ -3,8 +3,8 @@ use Rattle.std.proofs.Common.{◌≡◌, ℕ, Bool, true, false, ◌&&◌, cond,
 use Rattle.std.proofs.lemmas.Bool.Decides.{nat_tests}
 use Rattle.vod_design.specs.declared.sized.SizedExpr.{SizedExpr}
 use Rattle.vod_design.specs.declared.sized.SizedKind.TheVariants as kind
-use Rattle.vod_operand.specs.Operands.{Looked, is_sound, natural, meets, number_where, node, own, first, unless}
-use Rattle.vod_operand.specs.Found.{known_natural, TreeIs, SeesAs, part_fault_of, tree_unless}
+use Rattle.vod_operand.specs.Operands.{Looked, is_sound, natural, known_natural, meets, number_where, node, own, first, unless}
+use Rattle.vod_operand.specs.Found.{TreeIs, SeesAs, part_fault_of, tree_unless}
 use Rattle.vod_operand.specs.declared.fault.Fault.{Fault}
 use Rattle.vod_operand.specs.FoundLaws.{part_fault_is, Passed, passed, unless_is}
 use Rattle.vod_operand.specs.FaultLaws.{first_nothing}
@@ -31,9 +31,9 @@ found_kept test None = refl
 found_kept test (Some n) = found_if (test n) n
 
 pub number_step : (test : ℕ → Bool) (c : code.Looked) (y : Looked) (n m : Option ℕ) (found : Bool) (fault : Option Fault) → n ≡ known_natural y → m ≡ kept test n → found ≡ is_found m
-    → fault ≡ part_fault_of found c.place c.tree → SeesAs c y (own y) → fault ≡ first (y.faults ++ unless test y)
+    → fault ≡ part_fault_of c.constant found c.place c.tree → SeesAs c y (own y) → fault ≡ first (y.faults ++ unless test y)
 number_step test c y n m found fault nn mm f e s =
-    e ∙ ap (λ b. part_fault_of b c.place c.tree) (f ∙ ap is_found mm ∙ found_kept test n ∙ ap (meets test) nn) ∙ part_fault_is test c y (own y) s
+    e ∙ ap (λ b. part_fault_of c.constant b c.place c.tree) (f ∙ ap is_found mm ∙ found_kept test n ∙ ap (meets test) nn) ∙ part_fault_is test c y (own y) s
 
 pub number_is : (test : ℕ → Bool) (y : Looked) (n m : Option ℕ) → n ≡ known_natural y → m ≡ kept test n → m ≡ number_where test y
 number_is test y n m nn mm = mm ∙ ap (kept test) nn ∙ kept_is test y

@@ -21,11 +21,16 @@ use Rattle.vod_width.specs.Names.{Declaration, declared}
 use Rattle.vod_width.specs.Sizes.{look_name, look_index, look_range, look_call, look_kind, look_whole, look, inside}
 use Rattle.vod_width.proofs.Layers.{kind_look, look_at}
 use Rattle.vod_width.specs.declared.decls.Declared.TheVariants as stands
+use Rattle.vod_width.specs.declared.decls.Sort.TheVariants as sorts
 
 name_refits : (place : ℕ) (d : Option Declared) → Refits (look_name place d)
 name_refits place (Some (stands.Vector v)) = stays _ (refitted.fixed_Name v.name)
 name_refits place (Some (stands.Ram m)) = stays _ (refitted.fixed_Number _)
 name_refits place (Some (stands.Function f)) = stays _ (refitted.fixed_Number _)
+name_refits place (Some (stands.Open sorts.Net)) = stays _ (refitted.fixed_Number _)
+name_refits place (Some (stands.Open sorts.Constant)) = stays _ (refitted.fixed_Number _)
+name_refits place (Some (stands.Open sorts.Ram)) = stays _ (refitted.fixed_Number _)
+name_refits place (Some (stands.Open sorts.Function)) = stays _ (refitted.fixed_Number _)
 name_refits place None = stays _ (refitted.fixed_Number _)
 
 chosen : (b : Bool) (k l : SizedKind) → refitted.IsFixed k → refitted.IsFixed l → (w v : ℕ) (s t : Bool) (r : SizedExpr) → Fits w s (node v t (cond b k l)) r → r ≡ node w s (cond b k l)
@@ -36,18 +41,30 @@ index_refits : (place : ℕ) (d : Option Declared) (i : Looked) → Refits (look
 index_refits place (Some (stands.Vector v)) i = chosen i.constant _ _ (refitted.fixed_Select _ _ _) (refitted.fixed_Index _ _ _)
 index_refits place (Some (stands.Ram m)) i = chosen i.constant _ _ (refitted.fixed_Word _ _) (refitted.fixed_WordIndex _ _ _)
 index_refits place (Some (stands.Function f)) i = stays _ (refitted.fixed_Number _)
+index_refits place (Some (stands.Open sorts.Net)) i = stays _ (refitted.fixed_Number _)
+index_refits place (Some (stands.Open sorts.Constant)) i = stays _ (refitted.fixed_Number _)
+index_refits place (Some (stands.Open sorts.Ram)) i = stays _ (refitted.fixed_Number _)
+index_refits place (Some (stands.Open sorts.Function)) i = stays _ (refitted.fixed_Number _)
 index_refits place None i = stays _ (refitted.fixed_Number _)
 
 range_refits : (place : ℕ) (d : Option Declared) (a b : Looked) → Refits (look_range place d a b)
 range_refits place (Some (stands.Vector v)) a b = stays _ (refitted.fixed_Select _ _ _)
 range_refits place (Some (stands.Ram m)) a b = stays _ (refitted.fixed_Number _)
 range_refits place (Some (stands.Function f)) a b = stays _ (refitted.fixed_Number _)
+range_refits place (Some (stands.Open sorts.Net)) a b = stays _ (refitted.fixed_Number _)
+range_refits place (Some (stands.Open sorts.Constant)) a b = stays _ (refitted.fixed_Number _)
+range_refits place (Some (stands.Open sorts.Ram)) a b = stays _ (refitted.fixed_Number _)
+range_refits place (Some (stands.Open sorts.Function)) a b = stays _ (refitted.fixed_Number _)
 range_refits place None a b = stays _ (refitted.fixed_Number _)
 
 call_refits : (place : ℕ) (d : Option Declared) (xs : List Looked) → Refits (look_call place d xs)
 call_refits place (Some (stands.Vector v)) xs = stays _ (refitted.fixed_Number _)
 call_refits place (Some (stands.Ram m)) xs = stays _ (refitted.fixed_Number _)
 call_refits place (Some (stands.Function f)) xs = stays _ (refitted.fixed_Call _ _)
+call_refits place (Some (stands.Open sorts.Net)) xs = stays _ (refitted.fixed_Number _)
+call_refits place (Some (stands.Open sorts.Constant)) xs = stays _ (refitted.fixed_Number _)
+call_refits place (Some (stands.Open sorts.Ram)) xs = stays _ (refitted.fixed_Number _)
+call_refits place (Some (stands.Open sorts.Function)) xs = stays _ (refitted.fixed_Number _)
 call_refits place None xs = stays _ (refitted.fixed_Number _)
 
 abbrev KindRefits : List Declaration → ExprKind → Type 0

@@ -13,14 +13,16 @@ use Rattle.vod_design.specs.declared.statement.Size.{Size}
 use Rattle.vod_design.specs.declared.sized.Named.TheVariants as named
 use Rattle.vod_design.specs.declared.sized.SizedKind.TheVariants as kind
 use Rattle.vod_operand.specs.declared.fault.Fault.{Fault}
-use Rattle.vod_operand.specs.declared.fault.Fault.TheVariants.{Rule}
-use Rattle.vod_operand.specs.Operands.{Looked, node, own, is_sound, looked, value, natural, number_where, unless, look_number, at_place}
+use Rattle.vod_operand.specs.declared.fault.Fault.TheVariants.{Rule, Open}
+use Rattle.vod_operand.specs.Operands.{Looked, node, own, is_sound, looked, value, natural, known_natural, number_where, unless, look_number, at_place}
 use Rattle.vod_operand.specs.Operators.{look_unary, look_binary, look_conditional}
 use Rattle.vod_width.specs.declared.decls.Declared.{Declared}
+use Rattle.vod_width.specs.declared.decls.Sort.{Sort}
 use Rattle.vod_width.specs.declared.decls.Vector.{Vector}
 use Rattle.vod_width.specs.declared.decls.WordArray.{WordArray}
 use Rattle.vod_width.specs.Names.{Declaration, declared}
 use Rattle.vod_width.specs.declared.decls.Declared.TheVariants as stands
+use Rattle.vod_width.specs.declared.decls.Sort.TheVariants as sorts
 
 abbrev pub or_zero : Option ℕ → ℕ
 or_zero None = 0
@@ -34,11 +36,23 @@ abbrev pub is_constant : Named → Bool
 is_constant (named.Variable x) = false
 is_constant (named.Constant b) = true
 
+-- what hangs on a name whose size, range or value couldn't be formed has the faults beside that name, and behind them that it is open
+abbrev pub left_open : ℕ → Bool → List Fault → Looked
+left_open width constant inner = looked width false constant (inner ++ Open ∷ []) (λ w s. node w s (kind.Number (B0 ∷ [])))
+
+-- an open net is no constant; an open constant is one, of no size
+abbrev pub open_name : ℕ → Sort → Looked
+open_name place sorts.Net = left_open 0 false []
+open_name place sorts.Constant = left_open 0 true []
+open_name place sorts.Ram = misused place []
+open_name place sorts.Function = misused place []
+
 -- a name has the size and sign of its declaration
 abbrev pub look_name : ℕ → Option Declared → Looked
 look_name place (Some (stands.Vector v)) = looked v.width v.signed (is_constant v.name) [] (λ w s. node w s (kind.Name v.name))
 look_name place (Some (stands.Ram m)) = misused place []
 look_name place (Some (stands.Function f)) = misused place []
+look_name place (Some (stands.Open sort)) = open_name place sort
 look_name place None = misused place []
 
 -- whether an index is inside the range of a vector; one without a range has nothing inside
@@ -48,15 +62,31 @@ in_vector v n = v.ranged && (nat_le v.lsb n && nat_lt (n - v.lsb) v.width)
 abbrev pub in_ram : WordArray → ℕ → Bool
 in_ram m n = nat_le m.low n && nat_le n m.high
 
+-- whether an index is inside some range (A range's bounds are 0 to 65,535)
+abbrev pub in_some_range : ℕ → Bool
+in_some_range n = nat_le n 65535
+
+-- an index that is constant is one for which a test holds
+abbrev pub index_faults : (ℕ → Bool) → Looked → List Fault
+index_faults test i = i.faults ++ (if i.constant then unless test i else [])
+
+-- a bit of a vector has one bit, whatever its range is. An index that is inside no range is at fault, though the range is open
+abbrev pub open_index : ℕ → Sort → Looked → Looked
+open_index place sorts.Net i = left_open 1 false (index_faults in_some_range i)
+open_index place sorts.Constant i = left_open 1 i.constant (index_faults in_some_range i)
+open_index place sorts.Ram i = left_open 0 false (index_faults in_some_range i)
+open_index place sorts.Function i = misused place i.faults
+
 -- a select is unsigned and has the size selected; its index is self-determined, and a constant one is inside the range (5.2.1, 5.2.2)
 abbrev pub look_index : ℕ → Option Declared → Looked → Looked
 look_index place (Some (stands.Vector v)) i =
-    looked 1 false (is_constant v.name && i.constant) (i.faults ++ (if i.constant then unless (in_vector v) i else []))
+    looked 1 false (is_constant v.name && i.constant) (index_faults (in_vector v) i)
     (λ w s. node w s (if i.constant then kind.Select v.name (or_zero (natural i) - v.lsb) 1 else kind.Index v.name v.lsb (own i)))
 look_index place (Some (stands.Ram m)) i =
-    looked m.width false false (i.faults ++ (if i.constant then unless (in_ram m) i else []))
+    looked m.width false false (index_faults (in_ram m) i)
     (λ w s. node w s (if i.constant then kind.Word m.number (or_zero (natural i) - m.low) else kind.WordIndex m.number m.low (own i)))
 look_index place (Some (stands.Function f)) i = misused place i.faults
+look_index place (Some (stands.Open sort)) i = open_index place sort i
 look_index place None i = misused place i.faults
 
 -- how many bits a part select has, where its bounds are numbers inside the range and in order
@@ -71,15 +101,28 @@ in_wrong_order None b = false
 in_wrong_order (Some msb) None = false
 in_wrong_order (Some msb) (Some lsb) = nat_lt msb lsb
 
+-- bounds are constants inside the range, the first not below the second; two in the wrong order are at fault at the first, whether or
+-- not they are inside the range
+abbrev pub range_faults : (ℕ → Bool) → Looked → Looked → List Fault
+range_faults test a b =
+    a.faults ++ unless test a ++ b.faults ++ unless test b ++ (if in_wrong_order (known_natural a) (known_natural b) then Rule a.place ∷ [] else [])
+
+-- bits of an open name have no size: whether they are inside its range can't be said
+abbrev pub open_range : ℕ → Sort → Looked → Looked → Looked
+open_range place sorts.Net a b = left_open 0 false (range_faults in_some_range a b)
+open_range place sorts.Constant a b = left_open 0 (a.constant && b.constant) (range_faults in_some_range a b)
+open_range place sorts.Ram a b = misused place (a.faults ++ b.faults)
+open_range place sorts.Function a b = misused place (a.faults ++ b.faults)
+
 abbrev pub look_range : ℕ → Option Declared → Looked → Looked → Looked
 look_range place (Some (stands.Vector v)) a b =
     let msb = number_where (in_vector v) a in
     let lsb = number_where (in_vector v) b in
-    looked (selected msb lsb) false (is_constant v.name)
-    (a.faults ++ unless (in_vector v) a ++ b.faults ++ unless (in_vector v) b ++ (if in_wrong_order msb lsb then Rule a.place ∷ [] else []))
+    looked (selected msb lsb) false (is_constant v.name && (a.constant && b.constant)) (range_faults (in_vector v) a b)
     (λ w s. node w s (kind.Select v.name (or_zero lsb - v.lsb) (selected msb lsb)))
 look_range place (Some (stands.Ram m)) a b = misused place (a.faults ++ b.faults)
 look_range place (Some (stands.Function f)) a b = misused place (a.faults ++ b.faults)
+look_range place (Some (stands.Open sort)) a b = open_range place sort a b
 look_range place None a b = misused place (a.faults ++ b.faults)
 
 -- an argument is assigned to its input: it takes the larger size of the two, and its own sign (5.4.1, 10.4.3)
@@ -91,12 +134,19 @@ abbrev pub sized_arguments : List Size → List Looked → List SizedExpr
 sized_arguments inputs [] = []
 sized_arguments inputs (a ∷ arguments) = a.sized (max (input_width inputs) a.width) a.signed ∷ sized_arguments (drop 1 inputs) arguments
 
+abbrev pub open_call : ℕ → Sort → List Fault → Looked
+open_call place sorts.Net inner = misused place inner
+open_call place sorts.Constant inner = misused place inner
+open_call place sorts.Ram inner = misused place inner
+open_call place sorts.Function inner = left_open 0 false inner
+
 -- a call has the function's size and sign
 abbrev pub look_call : ℕ → Option Declared → List Looked → Looked
 look_call place (Some (stands.Function f)) arguments =
     looked f.width f.signed false (flat_map (λ a. a.faults) arguments) (λ w s. node w s (kind.Call f.number (sized_arguments f.inputs arguments)))
 look_call place (Some (stands.Vector v)) arguments = misused place (flat_map (λ a. a.faults) arguments)
 look_call place (Some (stands.Ram m)) arguments = misused place (flat_map (λ a. a.faults) arguments)
+look_call place (Some (stands.Open sort)) arguments = open_call place sort (flat_map (λ a. a.faults) arguments)
 look_call place None arguments = misused place (flat_map (λ a. a.faults) arguments)
 
 -- the size of a concatenation: the sum (5.4.1), and none where a part has none
@@ -110,11 +160,11 @@ total parts = if have_sizes parts then sum (map (λ x. x.width) parts) else 0
 abbrev pub look_concat : List Looked → Looked
 look_concat parts = looked (total parts) false (list_all (λ x. x.constant) parts) (flat_map (λ x. x.faults) parts) (λ w s. node w s (kind.Concat (map own parts)))
 
--- the count is a constant of at least 1; one past WIDTH has too many bits
+-- the count is a constant of at least 1; one past WIDTH has too many bits. What its count reads, the whole reads
 abbrev pub look_replicate : Looked → List Looked → Looked
 look_replicate c parts =
     let count = or_zero (number_where (nat_lt 0) c) in
-    looked (count * total parts) false (list_all (λ x. x.constant) parts) (c.faults ++ unless (nat_lt 0) c ++ flat_map (λ x. x.faults) parts)
+    looked (count * total parts) false (c.constant && list_all (λ x. x.constant) parts) (c.faults ++ unless (nat_lt 0) c ++ flat_map (λ x. x.faults) parts)
     (λ w s. node w s (kind.Replicate (min count WIDTH) (node (total parts) false (kind.Concat (map own parts)))))
 
 -- each alternative at a place, with what its parts are in their places

@@ -1,5 +1,5 @@
 -- What the code finds of an expression.
-use Rattle.std.specs.Prelude.{◌≡◌, ℕ, ◌≤◌, min, Bool, true, false, if◌then◌else◌, List, [], ◌∷◌, ◌++◌, map, flat_map, sum, Option, None, Some, Result, Ok, Err}
+use Rattle.std.specs.Prelude.{◌≡◌, ℕ, ◌≤◌, ◌-◌, min, nat_lt, nat_le, Bool, true, false, if◌then◌else◌, ◌&&◌, List, [], ◌∷◌, ◌++◌, map, flat_map, sum, Option, None, Some, Result, Ok, Err}
 use Rattle.std.specs.List.{list_all}
 use Rattle.vod_bits.specs.Bit.{B0}
 use Rattle.vod_bits.specs.declared.TheConstants.{WIDTH}
@@ -7,15 +7,21 @@ use Rattle.vod_design.specs.declared.sized.SizedExpr.{SizedExpr}
 use Rattle.vod_design.specs.declared.statement.Size.{Size}
 use Rattle.vod_design.specs.declared.sized.SizedKind.TheVariants as kind
 use Rattle.vod_operand.specs.declared.fault.Fault.{Fault}
-use Rattle.vod_operand.specs.declared.fault.Fault.TheVariants.{Rule}
-use Rattle.vod_operand.specs.Operands.{Looked, node, own, first, meets, sooner, join}
+use Rattle.vod_operand.specs.declared.fault.Fault.TheVariants.{Rule, Open}
+use Rattle.vod_operand.specs.Operands.{Looked, node, own, first, meets, sooner, join, known_natural, number_where, unless}
 use Rattle.vod_operand.specs.Found.{looked_of, tree_unless}
 use Rattle.vod_operand.specs.declared.tree.Looked as code
 use Rattle.vod_width.specs.declared.decls.Declared.{Declared}
+use Rattle.vod_width.specs.declared.decls.Sort.{Sort}
 use Rattle.vod_width.specs.declared.decls.Vector.{Vector}
 use Rattle.vod_width.specs.declared.decls.WordArray.{WordArray}
-use Rattle.vod_width.specs.Sizes.{is_constant, have_sizes}
+use Rattle.vod_width.specs.Sizes.{is_constant, have_sizes, in_some_range, range_faults}
+use Rattle.vod_width.specs.declared.limit.Limit.{Limit}
 use Rattle.vod_width.specs.declared.decls.Declared.TheVariants as stands
+use Rattle.vod_width.specs.declared.decls.Sort.TheVariants as sorts
+use Rattle.vod_width.specs.declared.limit.Limit.TheVariants as limits
+use Rattle.vod_width.specs.declared.limit.Numbered as limit
+use Rattle.vod_width.specs.declared.select.Bounds as select
 use Rattle.vod_width.specs.declared.parts.Parts as parts
 
 -- a tree where there is no fault, which is that of an expression unless that is too wide, and else the first fault
@@ -53,11 +59,15 @@ with_tree_of (Err f) (Err g) = Err (sooner f g)
 abbrev pub misused_tree : ℕ → Option Fault → Result SizedExpr Fault
 misused_tree place beside = tree_unless (join (Some (Rule place)) beside) (kind.Number (B0 ∷ []))
 
+abbrev pub open_tree : Option Fault → Result SizedExpr Fault
+open_tree beside = tree_unless (join beside (Some Open)) (kind.Number (B0 ∷ []))
+
 -- the trees of the arguments of a call, and the first fault
 abbrev pub inputs_of : Option Declared → List Size
 inputs_of (Some (stands.Function f)) = f.inputs
 inputs_of (Some (stands.Vector v)) = []
 inputs_of (Some (stands.Ram m)) = []
+inputs_of (Some (stands.Open sort)) = []
 inputs_of None = []
 
 abbrev pub call_tree_of : ℕ → Result (List SizedExpr) Fault → Result SizedExpr Fault
@@ -76,17 +86,39 @@ concat_tree_of (Err f) = Err f
 abbrev pub kept : (ℕ → Bool) → Option ℕ → Option ℕ
 kept test n = if meets test n then n else None
 
+-- what a constant part may be
+abbrev pub allows : Limit → (ℕ → Bool)
+allows (limits.Vector ranged lsb width) = λ n. ranged && (nat_le lsb n && nat_lt (n - lsb) width)
+allows (limits.Ram low high) = λ n. nat_le low n && nat_le n high
+allows limits.SomeRange = in_some_range
+allows limits.Count = nat_lt 0
+
+-- what the code finds of a part that has to be a constant for which a test holds
+pub record IsNumbered (test : ℕ → Bool) (p : limit.Numbered) (x : Looked) : Type 0 where
+  pub natural : p.natural ≡ known_natural x
+  pub number : p.number ≡ number_where test x
+  pub constant : p.constant ≡ x.constant
+  pub fault : p.fault ≡ first (x.faults ++ unless test x)
+
+-- what it finds of two bounds
+pub record AreBounds (test : ℕ → Bool) (r : select.Bounds) (x y : Looked) : Type 0 where
+  pub msb : r.msb ≡ number_where test x
+  pub lsb : r.lsb ≡ number_where test y
+  pub constant : r.constant ≡ (x.constant && y.constant)
+  pub fault : r.fault ≡ first (range_faults test x y)
+
+abbrev pub open_named_of : ℕ → Sort → code.Looked
+open_named_of place sorts.Net = looked_of 0 0 false false (open_tree None)
+open_named_of place sorts.Constant = looked_of 0 0 false true (open_tree None)
+open_named_of place sorts.Ram = looked_of 0 0 false false (misused_tree place None)
+open_named_of place sorts.Function = looked_of 0 0 false false (misused_tree place None)
+
 abbrev pub named_of : ℕ → Option Declared → code.Looked
 named_of place (Some (stands.Vector v)) = looked_of 0 (min v.width 65) v.signed (is_constant v.name) (Ok (node 0 false (kind.Name v.name)))
 named_of place (Some (stands.Ram m)) = looked_of 0 0 false false (misused_tree place None)
 named_of place (Some (stands.Function f)) = looked_of 0 0 false false (misused_tree place None)
+named_of place (Some (stands.Open sort)) = open_named_of place sort
 named_of place None = looked_of 0 0 false false (misused_tree place None)
-
-abbrev pub vector_of : Option Declared → Option Vector
-vector_of (Some (stands.Vector v)) = Some v
-vector_of (Some (stands.Ram m)) = None
-vector_of (Some (stands.Function f)) = None
-vector_of None = None
 
 abbrev pub bit_index_tree : Vector → Result SizedExpr Fault → Result SizedExpr Fault
 bit_index_tree v (Ok i) = Ok (node 0 false (kind.Index v.name v.lsb i))

@@ -37,12 +37,25 @@ pub struct Callee {
     pub inputs: Locals,
 }
 
+/// What a name is whose size, range or value couldn't be formed.
+#[derive(Clone, Copy)]
+pub enum Sort {
+    /// A net or a variable.
+    Net,
+    Constant,
+    Ram,
+    Function,
+}
+
 /// What a name stands for.
 #[derive(Drop)]
 pub enum Declared {
     Vector(Vector),
     Ram(WordArray),
     Function(Callee),
+    /// A name whose size, range or value couldn't be formed. It was refused where that stands, so nothing that hangs on it is refused
+    /// again.
+    Open(Sort),
 }
 
 /// What names stand for, which contracts see as a list of pairs by name, in the order of the declarations.

@@ -4,12 +4,13 @@
 
 mod decls;
 mod expr;
+mod limit;
 mod number;
 mod parts;
 mod select;
 mod sizing;
 pub mod types;
 
-pub use decls::{Callee, Declared, Decls, Params, Vector, WordArray};
-pub use sizing::{constant, first_is_least, size};
+pub use decls::{Callee, Declared, Decls, Params, Sort, Vector, WordArray};
+pub use sizing::{constant, first_is_least, own, size, size_at};
 pub use types::WidthFault;

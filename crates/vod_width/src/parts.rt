@@ -3,21 +3,21 @@ ghost use Rattle.std.specs.Prelude.{◌≡◌, ◌+◌, ◌*◌, ◌&&◌, List,
 ghost use Rattle.std.specs.Option.{option_copied};
 ghost use Rattle.vod_operand.specs.Operands.{Looked as Found};
 ghost use Rattle.vod_width.specs.Sizes.{or_zero, look_concat, look_replicate};
-ghost use Rattle.vod_width.specs.Calls.{called_of, width_of};
+ghost use Rattle.vod_width.specs.Calls.{called_of, open_called_of, width_of};
 ghost use Rattle.vod_operand.specs.Found.{Sees, SeesAs, Saw};
-ghost use Rattle.vod_width.specs.View.{SeesKind, SeesParts, with_tree_of, concat_tree_of, kept, replicate_tree_of, inputs_of, call_tree_of, fault_of_trees};
+ghost use Rattle.vod_width.specs.View.{SeesKind, SeesParts, IsNumbered, with_tree_of, concat_tree_of, replicate_tree_of, inputs_of, call_tree_of, fault_of_trees};
 
-use crate::decls::Declared;
-use crate::number::is_found;
-use crate::select::{capped, misused};
+use crate::decls::{Declared, Sort};
+use crate::limit::{Limit, Numbered, own_number_within};
+use crate::select::{capped, left_open, misused};
 use sqlite_items::{Boxed, Items};
 use std::alloc::{AllocError, Global};
 use vod_bits::{WIDTH, Word};
 use vod_design::{Size, SizedExpr, SizedKind};
 use vod_operand::{
-    Fault, Looked, WIDE, both_hold, fit, fit_own, natural, part_fault, sooner, unplaced,
-    unsized_node,
+    Fault, Looked, WIDE, both_hold, fit, sooner, unplaced, unsized_node,
 };
+use vod_tree::let_go;
 
 // Parts, each at its own size: the sum of their widths, whether all have a width and whether all are constant, and their trees or the
 // first fault.
@@ -108,16 +108,6 @@ pub(crate) fn concat(parts: Parts) -> Looked
     unplaced(width, false, parts.constant, concat_tree(parts.trees))
 }
 
-// A count of at least 1.
-fn kept_count(n: Option<Word>) -> Option<Word>
-    ensures { result ≡ kept (nat_lt 0) n }
-{
-    match n {
-        Some(n) => { if n > 0 { Some(n) } else { None } }
-        None => None,
-    }
-}
-
 // So many times a width, as far as it counts.
 fn times(count: Word, width: u8) -> u8
     ensures { result ≡ min (count * width) 65 }
@@ -168,15 +158,24 @@ fn replicate_tree(
 pub(crate) fn replicate(alloc: Global, count: Looked, parts: Parts) -> Result<Looked, AllocError>
     ensures { IfOk result (λ c. (x : Found) (ys : List Found) → Saw count x → SeesParts parts ys → SeesKind c (look_replicate x ys)) }
 {
-    let count = fit_own(alloc, count)?;
-    let n = natural(alloc, &count)?;
-    let number = kept_count(n);
-    let fault = part_fault(&count, is_found(number));
-    let number = or_zero(number);
+    match own_number_within(alloc, Limit::Count, count) {
+        Ok(count) => replicated(alloc, count, parts),
+        Err(e) => {
+            let_go(parts);
+            Err(e)
+        }
+    }
+}
+
+// The same, where it is known what the count is.
+fn replicated(alloc: Global, count: Numbered, parts: Parts) -> Result<Looked, AllocError>
+    ensures { IfOk result (λ c. (x : Found) (ys : List Found) → IsNumbered (nat_lt 0) count x → SeesParts parts ys → SeesKind c (look_replicate x ys)) }
+{
+    let number = or_zero(count.number);
     let width = total(&parts);
-    let constant = parts.constant;
+    let constant = both_hold(count.constant, parts.constant);
     let concat = concat_tree(parts.trees);
-    let tree = replicate_tree(alloc, fault, tree_count(number), width, concat)?;
+    let tree = replicate_tree(alloc, count.fault, tree_count(number), width, concat)?;
     Ok(unplaced(times(number, width), false, constant, tree))
 }
 
@@ -195,6 +194,7 @@ pub(crate) fn inputs_of<'a>(callee: Option<&'a Declared>) -> &'a [Size]
         Some(Declared::Function(f)) => f.inputs.as_slice(),
         Some(Declared::Vector(_)) => &[],
         Some(Declared::Ram(_)) => &[],
+        Some(Declared::Open(_)) => &[],
         None => &[],
     }
 }
@@ -243,6 +243,18 @@ fn call_tree(number: u32, trees: Result<Items<SizedExpr>, Fault>) -> Result<Size
     }
 }
 
+// A call of an open name.
+fn open_call(place: u32, sort: Sort, beside: Option<Fault>) -> Looked
+    ensures { result ≡ open_called_of place sort beside }
+{
+    match sort {
+        Sort::Net => misused(place, beside),
+        Sort::Constant => misused(place, beside),
+        Sort::Ram => misused(place, beside),
+        Sort::Function => left_open(0, false, beside),
+    }
+}
+
 // A call.
 pub(crate) fn call(
     place: u32,
@@ -257,6 +269,7 @@ pub(crate) fn call(
         }
         Some(Declared::Vector(_)) => misused(place, fault_of_trees(&trees)),
         Some(Declared::Ram(_)) => misused(place, fault_of_trees(&trees)),
+        Some(Declared::Open(sort)) => open_call(place, *sort, fault_of_trees(&trees)),
         None => misused(place, fault_of_trees(&trees)),
     }
 }

@@ -1,24 +1,25 @@
 //! Names, and selects of them (5.2.1, 5.2.2).
-ghost use Rattle.std.specs.Prelude.{◌≡◌, ◌-◌, min, true, false, Some, None, IfOk};
+ghost use Rattle.std.specs.Prelude.{◌≡◌, ◌++◌, min, true, false, Some, IfOk};
 ghost use Rattle.std.specs.Option.{option_copied};
 ghost use Rattle.vod_width.specs.declared.decls.Declared.TheVariants as stands;
 ghost use Rattle.vod_width.specs.Names.{declared};
-ghost use Rattle.vod_operand.specs.Operands.{Looked as Found, own, join};
-ghost use Rattle.vod_width.specs.Sizes.{in_vector, in_ram, selected, in_wrong_order, is_constant, look_index, look_range};
-ghost use Rattle.vod_operand.specs.Found.{Sees, Saw, SeesAs, fault_of, looked_of};
-ghost use Rattle.vod_width.specs.View.{kept, misused_tree, named_of, vector_of, bit_index_tree, word_index_tree};
+ghost use Rattle.vod_operand.specs.Operands.{Looked as Found, own, first};
+ghost use Rattle.vod_width.specs.Sizes.{misused, selected, in_wrong_order, is_constant, index_faults, open_index, open_range, look_index, look_range};
+ghost use Rattle.vod_operand.specs.Found.{Sees, Saw, SeesAs, looked_of};
+ghost use Rattle.vod_width.specs.View.{allows, AreBounds, misused_tree, open_tree, named_of, open_named_of, bit_index_tree, word_index_tree};
 
-use crate::decls::{Declared, Decls, Vector, WordArray};
-use crate::number::{above, byte, is_found, two_bytes};
+use crate::decls::{Declared, Decls, Sort, Vector, WordArray};
+use crate::limit::{Limit, in_ram, in_vector, number_within};
+use crate::number::{above, byte, two_bytes};
 use sqlite_items::Boxed;
 use std::alloc::{AllocError, Global};
 use vod_bits::{Bits, Word};
 use vod_design::{Named, SizedExpr, SizedKind};
 use vod_operand::{
-    Fault, Looked, WIDE, both_hold, fault_if, fault_of, fit_own, fit_own_pair, join, natural,
-    part_fault, tree_unless, unplaced, unsized_node,
+    Fault, Looked, WIDE, both_hold, fault_if, fault_of, fit_own, fit_own_pair, join, tree_unless,
+    unplaced, unsized_node,
 };
-use vod_tree::Ident;
+use vod_tree::{Ident, let_go};
 
 const NO_BITS: Bits = Bits { width: 1, word: 0 };
 
@@ -33,6 +34,31 @@ pub(crate) fn misused(place: u32, beside: Option<Fault>) -> Looked
         false,
         tree_unless(fault, SizedKind::Number(NO_BITS)),
     )
+}
+
+// What hangs on an open name, with the first fault of what stands beside it.
+pub(crate) fn left_open(width: u8, constant: bool, beside: Option<Fault>) -> Looked
+    ensures { result ≡ looked_of 0 width false constant (open_tree beside) }
+{
+    let fault = join(beside, Some(Fault::Open));
+    unplaced(
+        width,
+        false,
+        constant,
+        tree_unless(fault, SizedKind::Number(NO_BITS)),
+    )
+}
+
+// An open name alone.
+fn open_name(place: u32, sort: Sort) -> Looked
+    ensures { result ≡ open_named_of place sort }
+{
+    match sort {
+        Sort::Net => left_open(0, false, None),
+        Sort::Constant => left_open(0, true, None),
+        Sort::Ram => misused(place, None),
+        Sort::Function => misused(place, None),
+    }
 }
 
 fn is_constant(name: Named) -> bool
@@ -64,45 +90,37 @@ pub(crate) fn name(place: u32, decls: &Decls, name: &Ident) -> Looked
         ),
         Some(Declared::Ram(_)) => misused(place, None),
         Some(Declared::Function(_)) => misused(place, None),
+        Some(Declared::Open(sort)) => open_name(place, *sort),
         None => misused(place, None),
     }
 }
 
-// Whether an index is inside the range of a vector.
-fn in_vector(v: &Vector, n: Word) -> bool
-    ensures { result ≡ in_vector v.now n }
+// The first fault of an index.
+fn index_fault(alloc: Global, limit: Limit, i: &Looked) -> Result<Option<Fault>, AllocError>
+    ensures { IfOk result (λ f. (y : Found) → SeesAs i.now y (own y) → f ≡ first (index_faults (allows limit) y)) }
 {
-    let above = match n.checked_sub(Word::from(v.lsb)) {
-        Some(above) => above < Word::from(v.width),
-        None => false,
-    };
-    both_hold(v.ranged, above)
-}
-
-// Whether an index is inside the range of a memory.
-fn in_ram(m: &WordArray, n: Word) -> bool
-    ensures { result ≡ in_ram m.now n }
-{
-    both_hold(Word::from(m.low) <= n, n <= Word::from(m.high))
-}
-
-// An index that is inside the range of a vector.
-fn kept_in_vector(v: &Vector, n: Option<Word>) -> Option<Word>
-    ensures { result ≡ kept (in_vector v.now) n }
-{
-    match n {
-        Some(n) => { if in_vector(v, n) { Some(n) } else { None } }
-        None => None,
+    if i.constant {
+        Ok(number_within(alloc, limit, i)?.fault)
+    } else {
+        Ok(fault_of(&i.tree))
     }
 }
 
-// The same for a memory.
-fn kept_in_ram(m: &WordArray, n: Option<Word>) -> Option<Word>
-    ensures { result ≡ kept (in_ram m.now) n }
+// A bit or word of an open name.
+fn index_open(
+    alloc: Global,
+    place: u32,
+    sort: Sort,
+    i: &Looked,
+) -> Result<Looked, AllocError>
+    ensures { IfOk result (λ c. (y : Found) → SeesAs i.now y (own y) → Sees c (open_index place sort y)) }
 {
-    match n {
-        Some(n) => { if in_ram(m, n) { Some(n) } else { None } }
-        None => None,
+    let fault = index_fault(alloc, Limit::SomeRange, i)?;
+    match sort {
+        Sort::Net => Ok(left_open(1, false, fault)),
+        Sort::Constant => Ok(left_open(1, i.constant, fault)),
+        Sort::Ram => Ok(left_open(0, false, fault)),
+        Sort::Function => Ok(misused(place, fault_of(&i.tree))),
     }
 }
 
@@ -111,21 +129,19 @@ fn index_vector(alloc: Global, v: &Vector, i: Looked) -> Result<Looked, AllocErr
     ensures { IfOk result (λ c. (y : Found) → SeesAs i y (own y) → Sees c (look_index 0 (Some (stands.Vector v.now)) y)) }
 {
     if i.constant {
-        bit_select(alloc, *v, i)
+        bit_select(alloc, v, &i)
     } else {
         bit_index(alloc, v, i)
     }
 }
 
 // A bit of a vector at a constant index.
-fn bit_select(alloc: Global, v: Vector, i: Looked) -> Result<Looked, AllocError>
-    ensures { IfOk result (λ c. (y : Found) → SeesAs i y (own y) → y.constant ≡ true → Sees c (look_index 0 (Some (stands.Vector v)) y)) }
+fn bit_select(alloc: Global, v: &Vector, i: &Looked) -> Result<Looked, AllocError>
+    ensures { IfOk result (λ c. (y : Found) → SeesAs i.now y (own y) → y.constant ≡ true → Sees c (look_index 0 (Some (stands.Vector v.now)) y)) }
 {
-    let n = natural(alloc, &i)?;
-    let number = kept_in_vector(&v, n);
-    let fault = part_fault(&i, is_found(number));
-    let low = byte(above(number, v.lsb));
-    let tree = tree_unless(fault, SizedKind::Select(v.name, low, 1));
+    let n = number_within(alloc, in_vector(v), i)?;
+    let low = byte(above(n.number, v.lsb));
+    let tree = tree_unless(n.fault, SizedKind::Select(v.name, low, 1));
     let constant = both_hold(is_constant(v.name), i.constant);
     Ok(unplaced(1, false, constant, tree))
 }
@@ -161,21 +177,19 @@ fn index_ram(alloc: Global, m: &WordArray, i: Looked) -> Result<Looked, AllocErr
     ensures { IfOk result (λ c. (y : Found) → SeesAs i y (own y) → Sees c (look_index 0 (Some (stands.Ram m.now)) y)) }
 {
     if i.constant {
-        word_select(alloc, *m, i)
+        word_select(alloc, m, &i)
     } else {
         word_index(alloc, m, i)
     }
 }
 
 // A word of a memory at a constant index.
-fn word_select(alloc: Global, m: WordArray, i: Looked) -> Result<Looked, AllocError>
-    ensures { IfOk result (λ c. (y : Found) → SeesAs i y (own y) → y.constant ≡ true → Sees c (look_index 0 (Some (stands.Ram m)) y)) }
+fn word_select(alloc: Global, m: &WordArray, i: &Looked) -> Result<Looked, AllocError>
+    ensures { IfOk result (λ c. (y : Found) → SeesAs i.now y (own y) → y.constant ≡ true → Sees c (look_index 0 (Some (stands.Ram m.now)) y)) }
 {
-    let n = natural(alloc, &i)?;
-    let number = kept_in_ram(&m, n);
-    let fault = part_fault(&i, is_found(number));
-    let place = two_bytes(above(number, m.low));
-    let tree = tree_unless(fault, SizedKind::Word(m.number, place));
+    let n = number_within(alloc, in_ram(m), i)?;
+    let place = two_bytes(above(n.number, m.low));
+    let tree = tree_unless(n.fault, SizedKind::Word(m.number, place));
     Ok(unplaced(capped(m.width), false, false, tree))
 }
 
@@ -215,10 +229,24 @@ pub(crate) fn index(
     ensures { IfOk result (λ c. (y : Found) → Saw i y → Sees c (look_index place (declared decls.now name.now.name) y)) }
 {
     let i = fit_own(alloc, i)?;
-    match decls.get(name.name.as_slice()) {
+    index_of(alloc, place, decls.get(name.name.as_slice()), i)
+}
+
+// A bit or a word of what a name stands for.
+fn index_of(
+    alloc: Global,
+    place: u32,
+    declared: Option<&Declared>,
+    i: Looked,
+) -> Result<Looked, AllocError>
+    ensures { IfOk result (λ c. (y : Found) → SeesAs i y (own y) → Sees c (look_index place (option_copied declared.entry) y)) }
+{
+    match declared {
         Some(Declared::Vector(v)) => index_vector(alloc, v, i),
         Some(Declared::Ram(m)) => index_ram(alloc, m, i),
-        _ => Ok(misused(place, fault_of(&i.tree))),
+        Some(Declared::Open(sort)) => index_open(alloc, place, *sort, &i),
+        Some(Declared::Function(_)) => Ok(misused(place, fault_of(&i.tree))),
+        None => Ok(misused(place, fault_of(&i.tree))),
     }
 }
 
@@ -254,6 +282,30 @@ fn in_wrong_order(msb: Option<Word>, lsb: Option<Word>) -> bool
     }
 }
 
+// Two bounds: the numbers that they are inside the range, whether both are constant, and their first fault.
+#[derive(Clone, Copy)]
+pub struct Bounds {
+    pub msb: Option<Word>,
+    pub lsb: Option<Word>,
+    pub constant: bool,
+    pub fault: Option<Fault>,
+}
+
+// What two bounds are that have to be within a limit.
+fn bounds_within(alloc: Global, limit: Limit, a: &Looked, b: &Looked) -> Result<Bounds, AllocError>
+    ensures { IfOk result (λ r. (x y : Found) → SeesAs a.now x (own x) → SeesAs b.now y (own y) → AreBounds (allows limit) r x y) }
+{
+    let msb = number_within(alloc, limit, a)?;
+    let lsb = number_within(alloc, limit, b)?;
+    let order = fault_if(in_wrong_order(msb.natural, lsb.natural), a.place);
+    Ok(Bounds {
+        msb: msb.number,
+        lsb: lsb.number,
+        constant: both_hold(msb.constant, lsb.constant),
+        fault: join(join(msb.fault, lsb.fault), order),
+    })
+}
+
 // Bits of a vector.
 pub(crate) fn range(
     alloc: Global,
@@ -266,45 +318,64 @@ pub(crate) fn range(
     ensures { IfOk result (λ c. (x y : Found) → Saw a x → Saw b y → Sees c (look_range place (declared decls.now name.now.name) x y)) }
 {
     let (a, b) = fit_own_pair(alloc, a, b)?;
-    match vector_of(decls.get(name.name.as_slice())) {
-        Some(v) => part_select(alloc, v, &a, &b),
-        None => Ok(misused_bounds(place, &a, &b)),
+    let found = range_of(alloc, place, decls.get(name.name.as_slice()), &a, &b);
+    let_go((a, b));
+    found
+}
+
+// Bits of what a name stands for.
+fn range_of(
+    alloc: Global,
+    place: u32,
+    declared: Option<&Declared>,
+    a: &Looked,
+    b: &Looked,
+) -> Result<Looked, AllocError>
+    ensures { IfOk result (λ c. (x y : Found) → SeesAs a.now x (own x) → SeesAs b.now y (own y) → Sees c (look_range place (option_copied declared.entry) x y)) }
+{
+    match declared {
+        Some(Declared::Vector(v)) => part_select(alloc, v, a, b),
+        Some(Declared::Open(sort)) => range_open(alloc, place, *sort, a, b),
+        Some(Declared::Ram(_)) => Ok(misused_bounds(place, a, b)),
+        Some(Declared::Function(_)) => Ok(misused_bounds(place, a, b)),
+        None => Ok(misused_bounds(place, a, b)),
     }
 }
 
 // Two bounds behind a name that stands for no vector.
 fn misused_bounds(place: u32, a: &Looked, b: &Looked) -> Looked
-    ensures { result ≡ looked_of 0 0 false false (misused_tree place (join (fault_of a.now.tree) (fault_of b.now.tree))) }
+    ensures { (x y : Found) → SeesAs a.now x (own x) → SeesAs b.now y (own y) → Sees result (misused place (x.faults ++ y.faults)) }
 {
     misused(place, join(fault_of(&a.tree), fault_of(&b.tree)))
 }
 
-// The vector that a name stands for, where it stands for one.
-fn vector_of(declared: Option<&Declared>) -> Option<Vector>
-    ensures { result ≡ vector_of (option_copied declared.entry) }
+// Bits of an open name.
+fn range_open(
+    alloc: Global,
+    place: u32,
+    sort: Sort,
+    a: &Looked,
+    b: &Looked,
+) -> Result<Looked, AllocError>
+    ensures { IfOk result (λ c. (x y : Found) → SeesAs a.now x (own x) → SeesAs b.now y (own y) → Sees c (open_range place sort x y)) }
 {
-    match declared {
-        Some(Declared::Vector(v)) => Some(*v),
-        Some(Declared::Ram(_)) => None,
-        Some(Declared::Function(_)) => None,
-        None => None,
+    let bounds = bounds_within(alloc, Limit::SomeRange, a, b)?;
+    match sort {
+        Sort::Net => Ok(left_open(0, false, bounds.fault)),
+        Sort::Constant => Ok(left_open(0, bounds.constant, bounds.fault)),
+        Sort::Ram => Ok(misused_bounds(place, a, b)),
+        Sort::Function => Ok(misused_bounds(place, a, b)),
     }
 }
 
 // Bits of a vector between two bounds.
-fn part_select(alloc: Global, v: Vector, a: &Looked, b: &Looked) -> Result<Looked, AllocError>
-    ensures { IfOk result (λ c. (x y : Found) → SeesAs a.now x (own x) → SeesAs b.now y (own y) → Sees c (look_range 0 (Some (stands.Vector v)) x y)) }
+fn part_select(alloc: Global, v: &Vector, a: &Looked, b: &Looked) -> Result<Looked, AllocError>
+    ensures { IfOk result (λ c. (x y : Found) → SeesAs a.now x (own x) → SeesAs b.now y (own y) → Sees c (look_range 0 (Some (stands.Vector v.now)) x y)) }
 {
-    let m = natural(alloc, a)?;
-    let l = natural(alloc, b)?;
-    let msb = kept_in_vector(&v, m);
-    let lsb = kept_in_vector(&v, l);
-    let upper = part_fault(a, is_found(msb));
-    let lower = part_fault(b, is_found(lsb));
-    let order = fault_if(in_wrong_order(msb, lsb), a.place);
-    let fault = join(join(upper, lower), order);
-    let count = selected(msb, lsb);
-    let low = byte(above(lsb, v.lsb));
-    let tree = tree_unless(fault, SizedKind::Select(v.name, low, count));
-    Ok(unplaced(capped(count), false, is_constant(v.name), tree))
+    let bounds = bounds_within(alloc, in_vector(v), a, b)?;
+    let count = selected(bounds.msb, bounds.lsb);
+    let low = byte(above(bounds.lsb, v.lsb));
+    let tree = tree_unless(bounds.fault, SizedKind::Select(v.name, low, count));
+    let constant = both_hold(is_constant(v.name), bounds.constant);
+    Ok(unplaced(capped(count), false, constant, tree))
 }

@@ -1,4 +1,4 @@
-//! What `constant` answers, and why it and `size` refuse.
+//! What `constant` and `own` answer, and why an expression is refused.
 use std::alloc::AllocError;
 use std::fmt;
 use vod_bits::{Bits, WIDTH};
@@ -10,6 +10,14 @@ pub struct Constant {
     pub signed: bool,
 }
 
+/// The size of an expression by itself, its sign, and whether it is constant.
+#[derive(Clone, Copy)]
+pub struct Own {
+    pub width: u8,
+    pub signed: bool,
+    pub constant: bool,
+}
+
 /// Why an expression is refused: by the first token of the least part that is at fault, and at one place by a rule before a width.
 #[derive(Clone, Copy, PartialEq, Eq)]
 pub enum WidthFault {
@@ -17,6 +25,9 @@ pub enum WidthFault {
     Rule { place: u32 },
     /// A part is wider than `WIDTH` bits.
     Width { place: u32 },
+    /// Nothing in it has a fault of its own, but it hangs on a name whose size, range or value couldn't be formed. That was refused
+    /// where it stands.
+    Open,
     /// Memory ran out.
     Memory,
 }
@@ -32,6 +43,9 @@ impl fmt::Display for WidthFault {
             }
             WidthFault::Width { place } => {
                 write!(f, "the part at byte {place} is wider than {WIDTH} bits")
+            }
+            WidthFault::Open => {
+                f.write_str("a name has no size, range or value that could be formed")
             }
             WidthFault::Memory => f.write_str("memory ran out"),
         }
