@@ -15,7 +15,9 @@ use Rattle.vod_design.specs.Values.{Values, Frame, Operand, bounded, at_size, se
 use Rattle.vod_design.specs.Eval.{Calls, gate_bit, kind_bits, sized_operand, operand_of}
 use Rattle.vod_design.specs.declared.statement.Function.{Function}
 use Rattle.vod_design.specs.Run.{call_below, eval}
-use Rattle.vod_design.specs.Reads.{Read, Ram, whole, bits, kind_reads, reads, Agree}
+use Rattle.vod_design.specs.declared.read.Read.{Read}
+use Rattle.vod_design.specs.declared.read.Read.TheVariants.{Ram}
+use Rattle.vod_design.specs.Reads.{whole, bits, kind_reads, reads, Agree}
 
 abbrev Alike : Values → Values → List Read → Type 0
 Alike u v rs = AllByRecursion (Agree u v) rs

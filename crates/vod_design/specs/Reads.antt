@@ -1,5 +1,7 @@
 -- What an expression can read of signals and memory words.
 use Rattle.std.specs.Prelude.{◌≡◌, ℕ, List, [], ◌∷◌, ◌++◌, flat_map}
+use Rattle.vod_design.specs.declared.read.Read.{Read}
+use Rattle.vod_design.specs.declared.read.Read.TheVariants.{Whole, Bits, Word, Ram}
 use Rattle.vod_design.specs.declared.sized.Variable.TheVariants.{Signal, Local}
 use Rattle.vod_design.specs.declared.sized.Named.{Named}
 use Rattle.vod_design.specs.declared.sized.Named.TheVariants as named
@@ -7,13 +9,6 @@ use Rattle.vod_design.specs.declared.sized.SizedExpr.{SizedExpr}
 use Rattle.vod_design.specs.declared.sized.SizedKind.TheOpen.{SizedKind-F}
 use Rattle.vod_design.specs.declared.sized.SizedKind.TheFolds.{fold-SizedExpr}
 use Rattle.vod_design.specs.Values.{Values, bounded, select_bits}
-
--- a signal's whole value, bits of it from a place up, a word of a memory, or any word of it
-pub data Read : Type 0 where
-  Whole : ℕ → Read
-  Bits : ℕ → ℕ → ℕ → Read
-  Word : ℕ → ℕ → Read
-  Ram : ℕ → Read
 
 -- the whole value of what a name stands for, and bits of it
 abbrev pub whole : Named → List Read

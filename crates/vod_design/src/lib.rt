@@ -2,6 +2,7 @@
 #![tactic(auto)]
 
 mod parts;
+mod read;
 mod refusal;
 mod sized;
 mod statement;
@@ -11,6 +12,7 @@ pub use parts::{
     Assigns, Block, Driver, Edge, Initial, InitialAssign, InitialTarget, Input, Name, Precision,
     Ram, Scope, Signal, Unit,
 };
+pub use read::Read;
 pub use refusal::{Rule, Which};
 pub use sized::{
     BinaryOp, ComparisonOp, GateOp, LogicalOp, Memory, Named, ReductionOp, ShiftOp, SizedExpr,

@@ -6,6 +6,8 @@ use Rattle.vod_design.specs.declared.sized.SizedKind.{SizedKind}
 use Rattle.vod_design.specs.declared.sized.SizedKind.TheOpen.{SizedKind-F}
 use Rattle.vod_design.specs.declared.sized.SizedKind.TheFolds.{fold-SizedKind, map-SizedKind, fold-roll-SizedKind, fold_out-SizedExpr}
 use Rattle.vod_design.specs.declared.sized.SizedKind.TheViews.{roll-SizedKind}
+use Rattle.vod_design.specs.declared.read.Read.{Read}
+use Rattle.vod_design.specs.Reads.{kind_reads, reads}
 use Rattle.vod_design.specs.Values.{Values, Frame, Operand, at_size}
 use Rattle.vod_design.specs.Eval.{Calls, kind_bits, sized_operand, operand_of}
 use Rattle.vod_design.specs.declared.statement.CaseItem.{CaseItem}
@@ -29,6 +31,11 @@ pub room_at : (calls : ℕ → ℕ) (e : SizedExpr) (x : Layer) → e.kind ≡ r
     → expr_room calls e ≡ kind_room calls (map-SizedKind SizedKind SizedExpr ℕ ℕ (fold-SizedKind ℕ ℕ (kind_room calls) (λ e. e.kind)) (expr_room calls) x)
 unfolding expr_room
 room_at calls e x is = fold_out-SizedExpr ℕ ℕ (kind_room calls) (λ e. e.kind) e ∙ ap (λ k. fold-SizedKind ℕ ℕ (kind_room calls) (λ e. e.kind) k) is ∙ fold-roll-SizedKind ℕ ℕ (kind_room calls) (λ e. e.kind) x
+
+pub reads_at : (e : SizedExpr) (x : Layer) → e.kind ≡ roll-SizedKind x
+    → reads e ≡ kind_reads (map-SizedKind SizedKind SizedExpr (List Read) (List Read) (fold-SizedKind (List Read) (List Read) kind_reads (λ e. e.kind)) reads x)
+unfolding reads
+reads_at e x is = fold_out-SizedExpr (List Read) (List Read) kind_reads (λ e. e.kind) e ∙ ap (λ k. fold-SizedKind (List Read) (List Read) kind_reads (λ e. e.kind) k) is ∙ fold-roll-SizedKind (List Read) (List Read) kind_reads (λ e. e.kind) x
 
 pub value_at_kind : (calls : Calls) (values : Values) (frame : Frame) (e : SizedExpr) (x : Layer) → e.kind ≡ roll-SizedKind x
     → (operand_of calls values frame e).bits ≡ at_size e.width e.signed (kind_bits calls values frame (map-SizedKind SizedKind SizedExpr (ℕ → Bool → List Bit) Operand (fold-SizedKind (ℕ → Bool → List Bit) Operand (kind_bits calls values frame) sized_operand) (operand_of calls values frame) x) e.width e.signed)

@@ -7,3 +7,4 @@ pub mod Enter
 pub mod Tables
 mod Gates
 mod Commons
+pub mod ReadLists

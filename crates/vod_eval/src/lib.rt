@@ -6,7 +6,9 @@ mod bits;
 mod eval;
 mod labels;
 mod ops;
+mod reads;
 mod room;
 
 pub use eval::value_of;
+pub use reads::add_reads;
 pub use room::{call_rooms, expr_room, statement_room};
