@@ -1,3 +1,4 @@
 pub mod Agree
 pub mod Hangs
 pub mod Forgets
+pub mod ForgetsRun

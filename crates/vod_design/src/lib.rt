@@ -11,4 +11,5 @@ pub use sized::{
 };
 pub use statement::{
     Body, CaseItem, Function, Locals, Part, PartTarget, Place, Places, Size, Statement,
+    run_forgets_places,
 };
