@@ -105,7 +105,7 @@ sized calls values frame y =
     let open_whole = fold-roll-SizedExpr (ℕ → Bool → List Bit) Operand (kind_bits calls values frame) sized_operand x in
     ap (operand_of calls values frame) bare_is ∙ open_bare ∙ ap (λ b. operand (at_size y.width y.signed b) y.signed) (y.kind.1 y.width y.signed) ∙ sym open_whole
 
-same : (calls : Calls) (values : Values) (frame : Frame) (e : SizedExpr) → ExprSame calls values frame e
+pub same : (calls : Calls) (values : Values) (frame : Frame) (e : SizedExpr) → ExprSame calls values frame e
 same calls values frame =
     ind-SizedExpr (KindSame calls values frame) (ExprSame calls values frame)
     (λ x y is. let P : Layer → Type 0 = λ z. KindSame calls values frame (roll-SizedKind z) in subst P is (rolled calls values frame y))

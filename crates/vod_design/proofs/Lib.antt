@@ -1,3 +1,4 @@
 pub mod Hangs
 pub mod Forgets
 pub mod Lawful
+pub mod ForgetsRun

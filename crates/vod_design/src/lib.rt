@@ -20,5 +20,6 @@ pub use sized::{
 };
 pub use statement::{
     Body, CaseItem, Function, Locals, Part, PartTarget, Place, Places, Size, Statement,
+    run_forgets_places,
 };
 pub use vector::{Class, Move, Moves, Vector, one_more_is_lawful};
