@@ -4,6 +4,7 @@
 
 mod bits;
 mod four;
+mod sized;
 mod text;
 mod thin;
 
@@ -16,10 +17,11 @@ enum Layer {
     Text(text::Call),
     Bits,
     Four,
+    Sized(sized::Call),
     Thin,
 }
 
-const LAYERS: [(&str, Layer); 8] = [
+const LAYERS: [(&str, Layer); 13] = [
     ("decimal", Layer::Text(text::Call::Decimal)),
     ("hexadecimal", Layer::Text(text::Call::Hexadecimal)),
     ("based", Layer::Text(text::Call::Based)),
@@ -27,11 +29,16 @@ const LAYERS: [(&str, Layer); 8] = [
     ("message", Layer::Text(text::Call::Message)),
     ("bits", Layer::Bits),
     ("four", Layer::Four),
+    ("word", Layer::Sized(sized::Call::Word)),
+    ("constant_word", Layer::Sized(sized::Call::ConstantWord)),
+    ("gate", Layer::Sized(sized::Call::Gate)),
+    ("wide_gate", Layer::Sized(sized::Call::WideGate)),
+    ("case", Layer::Sized(sized::Call::Case)),
     ("thin", Layer::Thin),
 ];
 
 /// Prints what the call of a row's words gives.
-fn answer(rt: &impl Print, words: &[&str]) -> io::Result<()> {
+fn answer(rt: &(impl Print + AllocGlobal), words: &[&str]) -> io::Result<()> {
     let [first, rest @ ..] = words else {
         return Ok(());
     };
@@ -39,6 +46,7 @@ fn answer(rt: &impl Print, words: &[&str]) -> io::Result<()> {
         Some(Layer::Text(call)) => text::answer(rt, call, rest),
         Some(Layer::Bits) => bits::answer(rt, rest),
         Some(Layer::Four) => four::answer(rt, rest),
+        Some(Layer::Sized(call)) => sized::answer(rt, call, rest),
         Some(Layer::Thin) => thin::answer(rt, rest),
         None => rt.print(" unknown row"),
     }

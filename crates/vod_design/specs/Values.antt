@@ -60,7 +60,7 @@ abbrev pub bit_at_place : List Bit → Option ℕ → List Bit
 bit_at_place bits None = BX ∷ []
 bit_at_place bits (Some place) = select_bits place 1 bits
 
--- a memory word at a size, x in each bit where there is none
+-- a memory word, so many bits of x where there is none
 abbrev pub word_or_x : ℕ → Option (List Bit) → List Bit
 word_or_x width None = unknown width
 word_or_x width (Some bits) = bits

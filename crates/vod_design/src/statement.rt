@@ -38,7 +38,7 @@ pub enum Statement {
     Assign(Items<Part>, SizedExpr),
     /// The test, the branch taken where it is true, and the other (9.4).
     If(SizedExpr, Boxed<Statement>, Boxed<Statement>),
-    /// The value, the items, and what is done where no item is equal (9.5).
+    /// The value, the items, and what is done where no item is equal, all compared at one size (9.5).
     Case(SizedExpr, Items<CaseItem>, Boxed<Statement>),
     /// `begin` and `end` (9.8.1).
     Begin(Items<Statement>),

@@ -7,7 +7,7 @@ use std::alloc::{AllocError, Global};
 use std::test::Fail;
 use vod_bits::Bits;
 use vod_design::{
-    BinaryOp, Body, Function, Locals, Named, Part, PartPlace, Size, SizedExpr, SizedKind,
+    BinaryOp, Body, Function, Locals, Named, Part, PartTarget, Size, SizedExpr, SizedKind,
     Statement, Variable,
 };
 use vod_eval::{call_rooms, expr_room, value_of};
@@ -15,6 +15,7 @@ use vod_four::Four;
 
 fn sized(width: u8, kind: SizedKind) -> SizedExpr {
     SizedExpr {
+        place: 0,
         width,
         signed: false,
         kind,
@@ -39,18 +40,19 @@ fn sum(alloc: Global) -> Result<SizedExpr, AllocError> {
     Ok(sized(4, SizedKind::Binary(BinaryOp::Add, argument, one)))
 }
 
-// Adds the statement that gives so many bits of a place a value.
+// Adds the statement that gives so many bits of a target a value.
 fn assign(
     alloc: Global,
     statements: &mut Items<Statement>,
-    place: PartPlace,
+    target: PartTarget,
     width: u8,
     value: SizedExpr,
 ) -> Result<(), AllocError> {
     let part = Part {
+        place: 0,
         low: 0,
         width,
-        place,
+        target,
     };
     let mut parts = Items::new(alloc);
     parts.push(part)?;
@@ -61,9 +63,9 @@ fn assign(
 // `t = x + 1; f = t; f[x] = 0;`
 fn assign_all(alloc: Global, statements: &mut Items<Statement>) -> Result<(), AllocError> {
     let (t, f) = (Variable::Local(1), Variable::Local(2));
-    assign(alloc, statements, PartPlace::Bits(t, 0), 4, sum(alloc)?)?;
-    assign(alloc, statements, PartPlace::Bits(f, 0), 4, named(t))?;
-    let bit = PartPlace::Index(f, 0, named(Variable::Local(0)));
+    assign(alloc, statements, PartTarget::Bits(t, 0), 4, sum(alloc)?)?;
+    assign(alloc, statements, PartTarget::Bits(f, 0), 4, named(t))?;
+    let bit = PartTarget::Index(f, 0, named(Variable::Local(0)));
     assign(
         alloc,
         statements,
