@@ -1,0 +1,5 @@
+pub mod Lists
+pub mod Feeds
+pub mod Tables
+pub mod Cuts
+pub mod Steps
