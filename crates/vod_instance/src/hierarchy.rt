@@ -19,6 +19,7 @@ pub fn instances(reader: Reader<'_>, at: &mut usize) -> Result<Instances, ParseF
     let instances = separated::<InstancePhrase>(reader, at)?;
     reader.word(at, Word::Semicolon)?;
     Ok(Instances {
+        place: module.place,
         module,
         arguments,
         instances,

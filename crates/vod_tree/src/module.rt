@@ -39,9 +39,10 @@ pub enum FunctionDeclaration {
 }
 
 /// A function: its result's sign and range, its name, the inputs of its header, if it has one, what it declares, and its
-/// statement (10.4.1).
+/// statement; its place is that of `function` (10.4.1).
 #[derive(Drop)]
 pub struct Function {
+    pub place: u32,
     pub automatic: bool,
     pub signed: bool,
     pub range: Option<Range>,
