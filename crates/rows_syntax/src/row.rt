@@ -1,5 +1,6 @@
 //! A row: an operation, and the source that it is tried on.
-ghost use Rattle.std.specs.Prelude.{◌≤◌, length, All};
+ghost use Rattle.std.specs.Prelude.{◌≡◌, ◌≤◌, length, All, None};
+ghost use Rattle.vod_token.specs.Nesting.{deep_at};
 ghost use Rattle.vod_token.specs.Span.{IsTokenOf};
 
 use crate::expression::show_expr;
@@ -91,7 +92,8 @@ fn show_expression(alloc: Global, page: &mut Page, source: &[u8], from: u64)
 }
 
 fn show_run(alloc: Global, page: &mut Page, source: &[u8], tokens: &[Token], from: u64)
-    requires { All (IsTokenOf source.now) tokens.now }
+    requires tokens { All (IsTokenOf source.now) tokens.now }
+    requires nested { deep_at source.now tokens.now ≡ None }
 {
     if from > tokens.len() as u64 {
         return page.word("no such token");
