@@ -1,6 +1,6 @@
 //! Gates and instances of modules.
 use crate::expression::{show_expr, show_exprs};
-use crate::page::{open_at, show_ident};
+use crate::page::{open_at, show_ident, show_place};
 use rows_text::Page;
 use vod_tree::{
     Arguments, Connections, Gate, GateKind, GateTerminals, Instance, Instances, NamedArgument,
@@ -38,8 +38,9 @@ fn show_terminals(page: &mut Page, gate: &GateTerminals) {
     page.close()
 }
 
-/// The module of instances, their parameters, where they have some, and each instance.
+/// The place of instances, their module, their parameters, where they have some, and each instance.
 pub fn show_instances(page: &mut Page, instances: &Instances) {
+    show_place(page, instances.place);
     show_ident(page, &instances.module);
     if let Some(arguments) = &instances.arguments {
         show_arguments(page, arguments);

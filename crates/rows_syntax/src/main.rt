@@ -3,6 +3,7 @@
 
 mod declaration;
 mod expression;
+mod facts;
 mod instance;
 mod lexis;
 mod page;

@@ -15,7 +15,8 @@ pub fn open_at(page: &mut Page, word: &str, place: u32) {
     show_place(page, place);
 }
 
-fn show_place(page: &mut Page, place: u32) {
+/// A place, behind a point.
+pub fn show_place(page: &mut Page, place: u32) {
     page.put(".");
     page.put_shown(&place);
 }

@@ -1,8 +1,10 @@
 //! A row: an operation, and the source that it is tried on.
-ghost use Rattle.std.specs.Prelude.{◌≤◌, length, All};
+ghost use Rattle.std.specs.Prelude.{◌≡◌, ◌≤◌, length, All, None};
+ghost use Rattle.vod_token.specs.Nesting.{deep_at};
 ghost use Rattle.vod_token.specs.Span.{IsTokenOf};
 
 use crate::expression::show_expr;
+use crate::facts::show_facts;
 use crate::lexis::{show_literal, show_tokens};
 use crate::tree::show_tree;
 use rows_text::{Page, number_at, unescaped};
@@ -28,6 +30,8 @@ enum Operation {
     From,
     /// The tree of the whole.
     Source,
+    /// What calls say of the tree of the whole.
+    Facts,
 }
 
 fn operation_of(word: &str) -> Option<Operation> {
@@ -37,6 +41,7 @@ fn operation_of(word: &str) -> Option<Operation> {
         "expr" => Some(Operation::Expression),
         "from" => Some(Operation::From),
         "source" => Some(Operation::Source),
+        "facts" => Some(Operation::Facts),
         _ => None,
     }
 }
@@ -64,20 +69,28 @@ fn answer(alloc: Global, page: &mut Page, row: &str) -> Result<(), AllocError> {
         _ => (0, text.as_bytes()),
     };
     let source = unescaped(alloc, text)?;
-    show_answer(alloc, page, operation, from, source.as_slice());
-    Ok(())
+    show_answer(alloc, page, operation, from, source.as_slice())
 }
 
-fn show_answer(alloc: Global, page: &mut Page, operation: Operation, from: u64, source: &[u8]) {
+fn show_answer(
+    alloc: Global,
+    page: &mut Page,
+    operation: Operation,
+    from: u64,
+    source: &[u8],
+) -> Result<(), AllocError> {
     if source.len() > MOST_BYTES {
-        return page.word("longer than 1,048,576 bytes");
+        page.word("longer than 1,048,576 bytes");
+        return Ok(());
     }
     match operation {
         Operation::Tokens => show_tokens(alloc, page, source),
         Operation::Literal => show_literal(alloc, page, source),
         Operation::Expression | Operation::From => show_expression(alloc, page, source, from),
         Operation::Source => show_source(alloc, page, source),
+        Operation::Facts => return show_known(alloc, page, source),
     }
+    Ok(())
 }
 
 /// The expression that is read from a token on.
@@ -91,7 +104,8 @@ fn show_expression(alloc: Global, page: &mut Page, source: &[u8], from: u64)
 }
 
 fn show_run(alloc: Global, page: &mut Page, source: &[u8], tokens: &[Token], from: u64)
-    requires { All (IsTokenOf source.now) tokens.now }
+    requires tokens { All (IsTokenOf source.now) tokens.now }
+    requires nested { deep_at source.now tokens.now ≡ None }
 {
     if from > tokens.len() as u64 {
         return page.word("no such token");
@@ -117,6 +131,33 @@ fn show_source(alloc: Global, page: &mut Page, source: &[u8])
     match tokens(alloc, source) {
         Ok(tokens) => show_parsed(page, &read_source(alloc, source, tokens.as_slice())),
         Err(fault) => page.shown(&fault),
+    }
+}
+
+/// What calls say of the tree of a whole source.
+fn show_known(alloc: Global, page: &mut Page, source: &[u8]) -> Result<(), AllocError>
+    requires { length source.now ≤ 1048576 }
+{
+    match tokens(alloc, source) {
+        Ok(tokens) => show_read_facts(alloc, page, &read_source(alloc, source, tokens.as_slice())),
+        Err(fault) => {
+            page.shown(&fault);
+            Ok(())
+        }
+    }
+}
+
+fn show_read_facts(
+    alloc: Global,
+    page: &mut Page,
+    parsed: &Result<Tree, ParseFault>,
+) -> Result<(), AllocError> {
+    match parsed {
+        Ok(tree) => show_facts(alloc, page, tree),
+        Err(fault) => {
+            show_fault(page, *fault);
+            Ok(())
+        }
     }
 }
 

@@ -1,6 +1,6 @@
 //! Left sides, statements and what runs them.
 use crate::expression::{show_expr, show_exprs};
-use crate::page::{open_at, show_ident, show_number};
+use crate::page::{open_at, show_ident, show_number, show_place};
 use rows_text::Page;
 use vod_tree::{
     Always, Assignment, CaseItem, CaseLabel, Edge, Event, ForLoop, Ident, InitialKind,
@@ -148,8 +148,9 @@ fn show_label(page: &mut Page, label: &Option<Ident>) {
     }
 }
 
-/// The events and the statement of an `always`.
+/// The place, the events and the statement of an `always`.
 pub fn show_always(page: &mut Page, always: &Always) {
+    show_place(page, always.place);
     show_event(page, &always.event);
     if let Some(second) = &always.second {
         page.word(separator_word(second.separator));

@@ -4,7 +4,7 @@ use crate::declaration::{
     show_variables,
 };
 use crate::instance::{show_gate, show_instances};
-use crate::page::{open_at, show_flag, show_ident, show_idents};
+use crate::page::{open_at, show_flag, show_ident, show_idents, show_place};
 use crate::statement::{show_always, show_assignments, show_initial, show_statement};
 use rows_text::Page;
 use vod_tree::{
@@ -132,6 +132,7 @@ fn show_item(page: &mut Page, kind: &ItemKind) {
 }
 
 fn show_function(page: &mut Page, function: &Function) {
+    show_place(page, function.place);
     show_flag(page, function.automatic, "automatic");
     show_type(page, function.signed, &function.range);
     show_ident(page, &function.name);

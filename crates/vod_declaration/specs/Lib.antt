@@ -19,3 +19,4 @@ pub mod PortsLaws
 pub mod PortListLaws
 pub mod ItemsLaws
 pub mod FunctionsLaws
+pub mod Further

@@ -11,7 +11,8 @@ use vod_expr::ParseFault;
 use vod_grammar::{Phrase, Reader, Word};
 use vod_tree::{FunctionDeclaration, FunctionInput, FunctionPort, FunctionVariables, let_go};
 
-/// The inputs of a function's header where `(` comes next, and nothing elsewhere.
+/// The inputs of a function's header where `(` comes next, and nothing elsewhere. What its form reads,
+/// `function_headers_are_exact` says: exactly these (`AreInputs`).
 pub fn function_inputs(
     reader: Reader<'_>,
     at: &mut usize,
@@ -93,7 +94,8 @@ fn function_port(reader: Reader<'_>, at: &mut usize, place: u32) -> Result<Funct
     }
 }
 
-/// The inputs and locals that a function declares, while `input` or `reg` comes next.
+/// The inputs and locals that a function declares, while `input` or `reg` comes next. What its form reads,
+/// `function_headers_are_exact` says: exactly these (`AreFunctionDeclarations`).
 pub fn function_declarations(
     reader: Reader<'_>,
     at: &mut usize,

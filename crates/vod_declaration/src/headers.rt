@@ -9,7 +9,8 @@ use vod_expr::ParseFault;
 use vod_grammar::{Phrase, Reader, Word, names};
 use vod_tree::{DeclaredPort, Ident, NetPort, Ports, RegPort, Setting, Value, let_go};
 
-/// Behind the name and the parameters of a module: nothing, `( )`, names, or ports with their directions.
+/// Behind the name and the parameters of a module: nothing, `( )`, names, or ports with their directions. What its form reads,
+/// `ports_are_exact` says: exactly these (`IsPortList`).
 pub fn ports(reader: Reader<'_>, at: &mut usize) -> Result<Ports, ParseFault>
     requires { IsOfSource reader }
     ensures { Gives result (left reader.entry at.new) (port_list.read (left reader.entry at.old)) }

@@ -12,7 +12,8 @@ use vod_expr::ParseFault;
 use vod_grammar::{Phrase, Reader, Word};
 use vod_tree::{ItemKind, NetDeclaration, RegDeclaration, Register, VariableDeclaration, let_go};
 
-/// Whether a token comes next that begins a declaration.
+/// Whether a token comes next that begins a declaration: one of the seven words with which each begins, as
+/// `declarations_are_exact` says (`starts`).
 #[tactic(auto, using(crate::proofs::Starts::declaration_next))]
 pub fn is_declaration(reader: Reader<'_>, at: usize) -> bool
     requires { IsOfSource reader }
@@ -27,7 +28,8 @@ pub fn is_declaration(reader: Reader<'_>, at: usize) -> bool
         || reader.is_next(at, Word::Localparam)
 }
 
-/// A declaration of ports, nets, registers or parameters, with its first word.
+/// A declaration of ports, nets, registers or parameters, with its first word. What its form reads, `declarations_are_exact`
+/// says: exactly the declarations (`IsDeclaration`).
 pub fn declaration(reader: Reader<'_>, at: &mut usize) -> Result<ItemKind, ParseFault>
     requires { IsOfSource reader }
     ensures { Gives result (left reader.entry at.new) (declaration_form.read (left reader.entry at.old)) }

@@ -2,6 +2,7 @@
 #![tactic(auto)]
 
 mod functions;
+mod further;
 mod headers;
 mod items;
 mod laws;
@@ -10,6 +11,7 @@ mod parameters;
 mod ranges;
 
 pub use functions::{function_declarations, function_inputs};
+pub use further::{Part, declared_by};
 pub use headers::ports;
 pub use items::{declaration, is_declaration};
 pub use laws::{

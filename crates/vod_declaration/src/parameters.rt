@@ -11,7 +11,8 @@ use vod_tree::{
     ParameterDeclaration, ParameterPort, ParameterType, Setting, TypedParameter, let_go,
 };
 
-/// Behind `#`: the parameters of a module's header, of which the first begins with `parameter`.
+/// Behind `#`: the parameters of a module's header, of which the first begins with `parameter`. What its form reads,
+/// `parameters_are_exact` says: exactly these (`AreParameterPorts`).
 pub fn parameter_ports(
     reader: Reader<'_>,
     at: &mut usize,

@@ -6,7 +6,8 @@ use vod_expr::ParseFault;
 use vod_grammar::{Reader, Word};
 use vod_tree::{Expr, Range, let_go};
 
-/// A range where `[` comes next, and nothing elsewhere.
+/// A range where `[` comes next, and nothing elsewhere. What its form reads, `ranges_are_exact` says: exactly the ranges
+/// (`IsRange`).
 pub fn range(reader: Reader<'_>, at: &mut usize) -> Result<Option<Range>, ParseFault>
     requires { IsOfSource reader }
     ensures { Gives result (left reader.entry at.new) (range_form.read (left reader.entry at.old)) }

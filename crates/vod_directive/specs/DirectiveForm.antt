@@ -1,18 +1,14 @@
 -- How directives are read.
-use Rattle.std.specs.Prelude.{◌≡◌, Bool, true, false, List, [], ◌∷◌, Option, if◌then◌else◌}
+use Rattle.std.specs.Prelude.{Bool, true, false, List, [], ◌∷◌, Option, if◌then◌else◌}
 use Rattle.vod_token.specs.declared.TokenKind.{TokenKind}
 use Rattle.vod_token.specs.declared.TokenKind.TheVariants as kinds
 use Rattle.vod_tree.specs.declared.module.Directive.{Directive}
 use Rattle.vod_expr.specs.Grammar.{Lexeme}
 use Rattle.vod_grammar.specs.Form.{Form, Sight, never}
 use Rattle.vod_grammar.specs.Read.{Reading, Got, refuse}
-use Rattle.vod_directive.specs.Meaning.{directive_of}
+use Rattle.vod_directive.specs.Meaning.{IsDirective, directive_of}
 
--- the token is a directive
-abbrev pub IsDirective : Lexeme → Type 0
-IsDirective t = t.kind ≡ kinds.Directive
-
--- the tree of a directive
+-- the tree of a directive, as the code finds it
 abbrev pub directive_at : Lexeme → Directive
 directive_at t = record { place = t.place; kind = directive_of t.text }
 
@@ -32,7 +28,7 @@ directive_read [] = refuse []
 directive_read (t ∷ ts) = if starts_directive t then Got (directive_at t) ts else refuse (t ∷ ts)
 
 pub data DirectivePhrase : Sight → List Lexeme → Directive → Option Lexeme → Type 0 where
-  a_directive : {m : Sight} {t : Lexeme} {b : Option Lexeme} → IsDirective t → DirectivePhrase m (t ∷ []) (directive_at t) b
+  a_directive : {m : Sight} {t : Lexeme} {x : Directive} {b : Option Lexeme} → IsDirective t x → DirectivePhrase m (t ∷ []) x b
 
 abbrev pub directive_form : Form Directive
 directive_form = record { read = directive_read; phrase = DirectivePhrase; deep = never }

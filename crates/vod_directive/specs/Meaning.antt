@@ -2,6 +2,8 @@
 use Rattle.std.specs.Prelude.{◌≡◌, ℕ, Bool, ◌==◌, if◌then◌else◌, List, [], ◌∷◌, ◌++◌, slice_index, codes}
 use Rattle.std.specs.Char.{is_ascii_digit}
 use Rattle.vod_token.specs.Form.{is_blank, is_letter, IsBlank, IsTimescale, IsNettype}
+use Rattle.vod_token.specs.declared.TokenKind.TheVariants as kinds
+use Rattle.vod_tree.specs.declared.module.Directive.{Directive}
 use Rattle.vod_tree.specs.declared.module.DirectiveKind.{DirectiveKind}
 use Rattle.vod_tree.specs.declared.module.DirectiveKind.TheVariants.{Timescale, DefaultNettype}
 use Rattle.vod_tree.specs.declared.module.NetType.{NetType}
@@ -11,6 +13,7 @@ use Rattle.vod_tree.specs.declared.module.TimeCount.{TimeCount}
 use Rattle.vod_tree.specs.declared.module.TimeCount.TheVariants as count
 use Rattle.vod_tree.specs.declared.module.TimeUnit.{TimeUnit}
 use Rattle.vod_tree.specs.declared.module.TimeUnit.TheVariants as unit
+use Rattle.vod_expr.specs.Grammar.{Lexeme}
 use Rattle.vod_directive.specs.declared.meaning.Mark.{Mark}
 use Rattle.vod_directive.specs.declared.meaning.Mark.TheVariants as mark
 
@@ -42,6 +45,12 @@ pub record IsTimeText (text : List ℕ) (t : Time) : Type 0 where
 pub data StandsFor : List ℕ → DirectiveKind → Type 0 where
   times : {text : List ℕ} {a b : Time} → (d : IsTimescale text) → IsTimeText d.unit a → IsTimeText d.precision b → StandsFor text (Timescale a b)
   net_type : {text : List ℕ} {n : NetType} → (d : IsNettype text) → d.net ≡ net_text n → StandsFor text (DefaultNettype n)
+
+-- the token is a directive with this tree: that for which its text stands, at its place
+pub record IsDirective (t : Lexeme) (x : Directive) : Type 0 where
+  pub kind : t.kind ≡ kinds.Directive
+  pub place : x.place ≡ t.place
+  pub means : StandsFor t.text x.kind
 
 -- The same as a function. By which bytes the parts are told apart.
 abbrev pub is_mark : Mark → ℕ → Bool

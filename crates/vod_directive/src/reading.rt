@@ -13,7 +13,7 @@ use vod_grammar::Reader;
 use vod_token::{Token, TokenKind};
 use vod_tree::Directive;
 
-/// Whether a directive comes next.
+/// Whether a token comes next that is spelled as a directive.
 pub fn is_directive(reader: Reader<'_>, at: usize) -> bool
     ensures { result ≡ passes starts_directive (first (left reader.entry at) None) }
 {
@@ -23,7 +23,8 @@ pub fn is_directive(reader: Reader<'_>, at: usize) -> bool
     }
 }
 
-/// A directive.
+/// A directive. What its form reads, `directives_are_exact` says: exactly the directives (`IsDirective`), each with the tree for
+/// which its text stands.
 #[tactic(auto, using(crate::proofs::Lefts::rest_left))]
 pub fn directive(reader: Reader<'_>, at: &mut usize) -> Result<Directive, ParseFault>
     requires { IsOfSource reader }

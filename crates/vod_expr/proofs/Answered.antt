@@ -17,7 +17,7 @@ use Rattle.vod_expr_machine.specs.Numerals.{number_of}
 use Rattle.vod_expr.specs.Reading.{Stops}
 use Rattle.vod_expr.proofs.Ends.{stops_behind, step_none}
 use Rattle.vod_expr.proofs.Longest.{read_longest, read_tree, read_none}
-use Rattle.vod_expr.proofs.Numerals.{OneLiteral, knows, numbered, own_number}
+use Rattle.vod_expr.proofs.Numerals.{OneLiteral, knows, own_number}
 use Rattle.vod_expr.proofs.States.{Sure}
 use Rattle.vod_expr.proofs.Unique.{expr_runs}
 
@@ -210,4 +210,4 @@ refused_by t ts none =
 
 -- the tokens of a source
 pub source_by : (source : List ℕ) (ts : List Token) → All (IsTokenOf source) ts → All IsLexeme (lexemes source ts)
-source_by source ts h = All-map IsLexeme (lexeme source) ts (λ k d lt. numbered (lexeme source _) (h k d lt).text)
+source_by source ts h = All-map IsLexeme (lexeme source) ts (λ k d lt. (h k d lt).text)

@@ -1,14 +1,9 @@
 -- The number of a token is the one that it stands for.
-use Rattle.std.proofs.Common.{◌≡◌, ℕ, ◌%◌, ◌^◌, Bool, true, false, cond, List, refl, ap, sym, subst, ◌∙◌}
-use Rattle.vod_token.specs.Form.{Form, IsSpelled, kind_of}
-use Rattle.vod_token.specs.Form.Form.{Word, Plain, Based, Directive, Symbol}
-use Rattle.vod_token.specs.Literal.{literal, StandsFor, literal_of}
-use Rattle.vod_token.specs.Span.{IsTokenText}
-use Rattle.vod_token.specs.Word.{is_reserved}
-use Rattle.vod_token.specs.declared.TokenKind.TheVariants as kinds
+use Rattle.std.proofs.Common.{◌≡◌, ℕ, List, ap, sym, subst, ◌∙◌}
+use Rattle.vod_token.specs.Literal.{StandsFor, literal_of}
 use Rattle.vod_token.specs.declared.value.Literal.{Literal}
-use Rattle.vod_tree.specs.declared.ident.Number.{Number}
 use Rattle.vod_expr.specs.Grammar.{Lexeme, IsLexeme, IsNumber, number_from}
+use Rattle.vod_expr.specs.NumberLaws.{numbered}
 use Rattle.vod_expr_machine.specs.Numerals.{number_of}
 use Rattle.vod_expr.proofs.Complete.{Knows}
 use Rattle.vod_expr.proofs.States.{Sure}
@@ -21,22 +16,5 @@ pub knows : OneLiteral → Knows number_of
 unfolding number_of
 knows one t n isn = ap (number_from t.place) (one t.text isn.1.0 isn.1.1) ∙ sym isn.1.2
 
-word_is_none : (b : Bool) → kinds.Number ≡ cond b kinds.Reserved kinds.Name → ⊥
-word_is_none true h = cc
-word_is_none false h = cc
-
-stands : (t : Lexeme) → t.kind ≡ kinds.Number → (n : Literal) → StandsFor t.text n → (x : Number) × IsNumber t x
-stands t kind n is = (number_from t.place n, (kind, (n, is, refl)))
-
-by_form : (t : Lexeme) → t.kind ≡ kinds.Number → (form : Form) → IsSpelled t.text form → t.kind ≡ kind_of t.text form → (x : Number) × IsNumber t x
-by_form t k Word spelled is = absurd (word_is_none (is_reserved t.text) (sym k ∙ is))
-by_form t k (Plain value) spelled is = stands t k (literal 32 true value) (Plain value, spelled, refl)
-by_form t k (Based size signed value) spelled is = stands t k (literal size signed (value % (2 ^ size))) (Based size signed value, spelled, refl)
-by_form t k Directive spelled is = let clash : kinds.Number ≡ kinds.Directive = sym k ∙ is in cc
-by_form t k Symbol spelled is = let clash : kinds.Number ≡ kinds.Symbol = sym k ∙ is in cc
-
-pub numbered : (t : Lexeme) → IsTokenText t.text t.kind → IsLexeme t
-numbered t is = λ k. by_form t k is.form is.spelled is.is
-
 pub own_number : OneLiteral → (t : Lexeme) → IsLexeme t → Sure number_of t
-own_number one t is = λ k. let n = is k in subst (IsNumber t) (sym (knows one t n.0 n.1)) n.1
+own_number one t is = λ k. let n = numbered t is k in subst (IsNumber t) (sym (knows one t n.0 n.1)) n.1

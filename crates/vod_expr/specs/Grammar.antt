@@ -2,6 +2,7 @@
 use Rattle.std.specs.Prelude.{◌≡◌, ℕ, suc, ◌≤◌, List, [], ◌∷◌, ◌++◌, length, take, map, codes}
 use Rattle.vod_token.specs.Literal.{StandsFor}
 use Rattle.vod_token.specs.Nesting.{slice_of}
+use Rattle.vod_token.specs.Span.{IsTokenText}
 use Rattle.vod_token.specs.declared.Token.{Token}
 use Rattle.vod_token.specs.declared.TokenKind.TheVariants as kinds
 use Rattle.vod_token.specs.declared.value.Literal.{Literal}
@@ -33,9 +34,9 @@ IsName t = t.kind ≡ kinds.Name
 abbrev pub IsNumber : Lexeme → Number → Type 0
 IsNumber t n = (t.kind ≡ kinds.Number) × ((literal : Literal) × StandsFor t.text literal × (n ≡ number_from t.place literal))
 
--- a token of a source, as far as expressions see it: a number stands for one
+-- a token of a source, as far as the grammar sees it: its text is spelled as a token of its kind
 abbrev pub IsLexeme : Lexeme → Type 0
-IsLexeme t = t.kind ≡ kinds.Number → (n : Number) × IsNumber t n
+IsLexeme t = IsTokenText t.text t.kind
 
 -- The tokens are an expression with this tree, whose outermost operator binds at least as tightly as a level: an operator
 -- between two operands has its own level on its left and the next on its right, so equal ones group from the left; `?:` is at

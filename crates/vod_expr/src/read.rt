@@ -1,6 +1,7 @@
 //! The longest run of tokens with which an expression begins.
 
-ghost use Rattle.std.specs.Prelude.{◌≡◌, ◌≢◌, ◌≤◌, ◌+◌, ℕ, length, drop, All, Ok, Err, IfOk, IfErr, MatchResult};
+ghost use Rattle.std.specs.Prelude.{◌≡◌, ◌≢◌, ◌≤◌, ◌+◌, ℕ, length, drop, All, None, Ok, Err, IfOk, IfErr, MatchResult};
+ghost use Rattle.vod_token.specs.Nesting.{deep_at};
 ghost use Rattle.vod_token.specs.Span.{IsTokenOf};
 ghost use Rattle.vod_tree.specs.declared.expr.Expr.{Expr};
 ghost use Rattle.vod_expr.specs.Answer.{IsRead, IsRefused, expr_read};
@@ -18,7 +19,8 @@ use vod_tree::{Expr, let_go};
 
 /// Takes the longest run of tokens from the place `from` of the list on with which some expression begins (IEEE 1364-2005,
 /// clause 5). Where the run is an expression, the answer is that, with the place in the list of the token behind the run.
-/// Where it is none, it is refused at the first token not taken, or at the end.
+/// Where it is none, it is refused at the first token not taken, or at the end. The nesting of the tokens stays within 64, so
+/// no tree is deeper than a call of its parts may go; `tokens` of `vod_token` gives no others (`shallow`).
 pub fn read_expr(
     alloc: Global,
     source: &[u8],
@@ -27,6 +29,7 @@ pub fn read_expr(
 ) -> Result<(Expr, usize), ParseFault>
     requires from { from ≤ length tokens.now }
     requires tokens { All (IsTokenOf source.now) tokens.now }
+    requires nested { deep_at source.now tokens.now ≡ None }
     ensures ok { IfOk result (λ read. (n : ℕ) × (read.1 ≡ from + n) × IsRead (lexemes source.now (drop from tokens.now)) n read.0) }
     ensures err { IfErr result (λ fault. (fault ≢ ParseFault.Memory) → IsRefused (lexemes source.now (drop from tokens.now)) fault) }
 

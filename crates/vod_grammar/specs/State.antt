@@ -1,5 +1,6 @@
 -- The reader of the code: the tokens that are left from the next one on, and what a call answers.
-use Rattle.std.specs.Prelude.{◌≡◌, ℕ, List, drop, All, Result, Ok, Err}
+use Rattle.std.specs.Prelude.{◌≡◌, ℕ, List, drop, All, None, Result, Ok, Err}
+use Rattle.vod_token.specs.Nesting.{deep_at}
 use Rattle.vod_token.specs.Span.{IsTokenOf}
 use Rattle.vod_expr.specs.Grammar.{Lexeme, lexemes}
 use Rattle.vod_expr.specs.declared.ParseFault.{ParseFault}
@@ -7,9 +8,9 @@ use Rattle.vod_expr.specs.declared.ParseFault.TheVariants.{At, End, Statement, M
 use Rattle.vod_grammar.specs.Read.{Read, Got, Failed}
 use Rattle.vod_grammar.specs.declared.reader.Reader as code_reader
 
--- its tokens are tokens of its source
+-- its tokens are tokens of its source, and their nesting stays within the limit
 abbrev pub IsOfSource : code_reader.Reader → Type 0
-IsOfSource r = All (IsTokenOf r.source.now) r.tokens.now
+IsOfSource r = All (IsTokenOf r.source.now) r.tokens.now × (deep_at r.source.now r.tokens.now ≡ None)
 
 abbrev pub left : code_reader.Reader → ℕ → List Lexeme
 left r at = lexemes r.source.now (drop at r.tokens.now)

@@ -6,6 +6,7 @@ use Rattle.vod_token.specs.declared.value.Literal.{Literal}
 use Rattle.vod_tree.specs.declared.ident.Ident.{Ident}
 use Rattle.vod_tree.specs.declared.ident.Number.{Number}
 use Rattle.vod_expr.specs.Grammar.{Lexeme, IsLexeme, IsName, IsNumber, ident_of, number_from}
+use Rattle.vod_expr.specs.NumberLaws.{numbered}
 use Rattle.vod_expr_machine.specs.Numerals.{number_of}
 use Rattle.vod_expr.specs.declared.ParseFault.{ParseFault}
 use Rattle.vod_expr.specs.declared.ParseFault.TheVariants.{At, End}
@@ -18,15 +19,15 @@ use Rattle.vod_grammar.specs.FrontLaws.{got_value, got_rest, failed_fault, got_f
 use Rattle.vod_grammar.specs.WordLaws.{word_is, is_word-is, word_token, word_token-is, kind_same}
 
 -- a reader of one token, by a test of it
-record OneToken {A : Type 0} (f : Form A) (test : Lexeme → Bool) (value : Lexeme → A) : Type 0 where
-  ended : f.read [] ≡ Failed End
-  yes : (t : Lexeme) (ts : List Lexeme) → test t ≡ true → f.read (t ∷ ts) ≡ Got (value t) ts
-  no : (t : Lexeme) (ts : List Lexeme) → test t ≡ false → f.read (t ∷ ts) ≡ Failed (At t.place)
-  into : (m : Sight) (t : Lexeme) (b : Option Lexeme) → IsLexeme t → test t ≡ true → f.phrase m (t ∷ []) (value t) b
-  out : (m : Sight) (ts : List Lexeme) (x : A) (b : Option Lexeme) → f.phrase m ts x b → (t : Lexeme) × (ts ≡ t ∷ []) × (test t ≡ true) × (x ≡ value t)
-  free : (m n : Sight) (ts : List Lexeme) (x : A) (b c : Option Lexeme) → f.phrase m ts x b → f.phrase n ts x c
-  example : Example f.phrase
-  shallow : (front : List Lexeme) (t : Lexeme) → f.deep front t → ⊥
+pub record OneToken {A : Type 0} (f : Form A) (test : Lexeme → Bool) (value : Lexeme → A) : Type 0 where
+  pub ended : f.read [] ≡ Failed End
+  pub yes : (t : Lexeme) (ts : List Lexeme) → test t ≡ true → f.read (t ∷ ts) ≡ Got (value t) ts
+  pub no : (t : Lexeme) (ts : List Lexeme) → test t ≡ false → f.read (t ∷ ts) ≡ Failed (At t.place)
+  pub into : (m : Sight) (t : Lexeme) (b : Option Lexeme) → IsLexeme t → test t ≡ true → f.phrase m (t ∷ []) (value t) b
+  pub out : (m : Sight) (ts : List Lexeme) (x : A) (b : Option Lexeme) → f.phrase m ts x b → (t : Lexeme) × (ts ≡ t ∷ []) × (test t ≡ true) × (x ≡ value t)
+  pub free : (m n : Sight) (ts : List Lexeme) (x : A) (b c : Option Lexeme) → f.phrase m ts x b → f.phrase n ts x c
+  pub example : Example f.phrase
+  pub shallow : (front : List Lexeme) (t : Lexeme) → f.deep front t → ⊥
 
 module _ {A : Type 0} (f : Form A) (test : Lexeme → Bool) (value : Lexeme → A) (one : OneToken f test value) where
   one_sound : (ts : List Lexeme) (x : A) (rest : List Lexeme) → AreLexemes ts → f.read ts ≡ Got x rest → Taken f.phrase ts x rest
@@ -66,7 +67,7 @@ module _ {A : Type 0} (f : Form A) (test : Lexeme → Bool) (value : Lexeme → 
         same = λ u us other k. let same : t ≡ u = cc in ap (λ v. f.read (v ∷ other)) (sym same) ∙ one.no t other e ∙ ap (λ v. Failed (At v.place)) same;
       }
 
-  one_laws : Laws f
+  pub one_laws : Laws f
   one_laws = record {
     example = one.example;
     empty = inl one.ended;
@@ -141,7 +142,7 @@ number_free m n ts x b c (a_number h) = a_number h
 
 number_into : OneLiteral → (m : Sight) (t : Lexeme) (b : Option Lexeme) → IsLexeme t → same_kind t.kind kinds.Number ≡ true → NumberPhrase m (t ∷ []) (number_of t) b
 number_into one m t b own e =
-    let n = own (kind_same t.kind kinds.Number e) in
+    let n = numbered t own (kind_same t.kind kinds.Number e) in
     a_number (subst (IsNumber t) (sym (number_is one t n.0 n.1)) n.1)
 
 pub number_laws : OneLiteral → Example number_form.phrase → Laws number_form

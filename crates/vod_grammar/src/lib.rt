@@ -6,7 +6,7 @@ mod phrase;
 mod reader;
 mod word;
 
-pub use laws::phrases_are_exact;
-pub use phrase::{Phrase, expressions, names, separated, until};
+pub use laws::{lists_are_exact, phrases_are_exact};
+pub use phrase::{Phrase, expressions, names, separated};
 pub use reader::Reader;
 pub use word::Word;

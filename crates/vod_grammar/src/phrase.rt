@@ -1,9 +1,9 @@
 //! Lists of phrases.
-ghost use Rattle.std.specs.Prelude.{List, []};
+ghost use Rattle.std.specs.Prelude.{List};
 ghost use Rattle.vod_expr.specs.Grammar.{Lexeme};
 ghost use Rattle.vod_grammar.specs.Read.{Read, separated, repeat, behind, name_read, expression_read};
 ghost use Rattle.vod_grammar.specs.State.{left, Gives, GivesAs, IsOfSource};
-ghost use Rattle.vod_grammar.specs.Words.{is_word, is_other};
+ghost use Rattle.vod_grammar.specs.Words.{is_word};
 ghost use Rattle.vod_grammar.specs.declared.word.Word.TheVariants.{Comma};
 
 use crate::reader::Reader;
@@ -12,7 +12,8 @@ use sqlite_items::Items;
 use vod_expr::ParseFault;
 use vod_tree::{Expr, Ident};
 
-/// A form of phrase that is read from the tokens of a source.
+/// A form of phrase that is read from the tokens of a source, by a reading on lists of tokens: what that reads, a law of the crate
+/// that has the form says.
 pub trait Phrase {
     /// The tree of such a phrase.
     type Node;
@@ -25,7 +26,8 @@ pub trait Phrase {
         ensures { Gives result (left reader.entry at.new) (reading (left reader.entry at.old)) };
 }
 
-/// One phrase or more, with `,` between.
+/// One phrase or more, with `,` between. Where the reading of one is that of a form whose laws hold, `separated_laws` and
+/// `commas_of` (`specs/PartLaws`, `specs/ListLaws`) say what its lists are; for names and expressions `lists_are_exact` does.
 pub fn separated<P: Phrase>(
     reader: Reader<'_>,
     at: &mut usize,
@@ -62,44 +64,6 @@ where
     Ok(())
 }
 
-/// Phrases up to a word, which is left, or up to the end.
-pub fn until<P: Phrase>(
-    reader: Reader<'_>,
-    at: &mut usize,
-    word: Word,
-) -> Result<Items<P::Node>, ParseFault>
-where
-    P::Node: Drop,
-    requires { IsOfSource reader }
-    ensures { Gives result (left reader.entry at.new) (repeat (is_other word) P.reading [] (left reader.entry at.old)) }
-{
-    let mut nodes = Items::new(reader.alloc);
-    more_until::<P>(reader, at, word, &mut nodes)?;
-    Ok(nodes)
-}
-
-// Each further one.
-fn more_until<P: Phrase>(
-    reader: Reader<'_>,
-    at: &mut usize,
-    word: Word,
-    nodes: &mut Items<P::Node>,
-) -> Result<(), ParseFault>
-where
-    P::Node: Drop,
-    requires { IsOfSource reader }
-    ensures { GivesAs (λ _. nodes.new) result (left reader.entry at.new)
-        (repeat (is_other word) P.reading nodes.old (left reader.entry at.old)) }
-{
-    for _ in 0..reader.remaining(*at) {
-        if !reader.is_other(*at, word) {
-            return Ok(());
-        }
-        nodes.push(P::read(reader, at)?)?;
-    }
-    Ok(())
-}
-
 // A name.
 pub(crate) struct NamePhrase {}
 
@@ -130,7 +94,7 @@ impl Phrase for ExpressionPhrase {
     }
 }
 
-/// One name or more, with `,` between.
+/// One name or more, with `,` between: `lists_are_exact` says which tokens these are.
 pub fn names(reader: Reader<'_>, at: &mut usize) -> Result<Items<Ident>, ParseFault>
     requires { IsOfSource reader }
     ensures { Gives result (left reader.entry at.new) (separated name_read (left reader.entry at.old)) }
@@ -138,7 +102,7 @@ pub fn names(reader: Reader<'_>, at: &mut usize) -> Result<Items<Ident>, ParseFa
     separated::<NamePhrase>(reader, at)
 }
 
-/// One expression or more, with `,` between.
+/// One expression or more, with `,` between: `lists_are_exact` says which tokens these are.
 pub fn expressions(reader: Reader<'_>, at: &mut usize) -> Result<Items<Expr>, ParseFault>
     requires { IsOfSource reader }
     ensures { Gives result (left reader.entry at.new) (separated expression_read (left reader.entry at.old)) }

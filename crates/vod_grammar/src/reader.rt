@@ -13,7 +13,8 @@ use vod_expr::{ParseFault, read_expr};
 use vod_token::{Token, TokenKind, literal_of, one_literal};
 use vod_tree::{Expr, Ident, Name, Number};
 
-/// A source and its tokens. Where reading stands is the number of the token that comes next.
+/// A source and its tokens. Where reading stands is the number of the token that comes next. Which tokens the readings of `word`,
+/// `name`, `number` and `expression` take, and where they stop, `phrases_are_exact` says.
 #[derive(Clone, Copy)]
 pub struct Reader<'s> {
     pub alloc: Global,
@@ -103,7 +104,7 @@ impl<'s> Reader<'s> {
         Some(place)
     }
 
-    /// This word, as its place.
+    /// This word, as its place (`phrases_are_exact`, `word`).
     pub fn word(self, at: &mut usize, word: Word) -> Result<u32, ParseFault>
         requires { IsOfSource self }
         ensures { Gives result (left self.entry at.new) (word_read word (left self.entry at.old)) }
@@ -114,7 +115,7 @@ impl<'s> Reader<'s> {
         }
     }
 
-    /// A name.
+    /// A name (`phrases_are_exact`, `name`).
     #[tactic(auto, using(crate::proofs::Lefts::rest_left))]
     pub fn name(self, at: &mut usize) -> Result<Ident, ParseFault>
         requires { IsOfSource self }
@@ -129,7 +130,7 @@ impl<'s> Reader<'s> {
         }
     }
 
-    /// A number.
+    /// A number (`phrases_are_exact`, `number`).
     #[tactic(auto, using(crate::proofs::Lefts::rest_left))]
     pub fn number(self, at: &mut usize) -> Result<Number, ParseFault>
         requires { IsOfSource self }
@@ -144,7 +145,8 @@ impl<'s> Reader<'s> {
         }
     }
 
-    /// The expression that the longest front of the tokens left is with which some expression begins.
+    /// The expression that the longest front of the tokens left is with which some expression begins (`phrases_are_exact`,
+    /// `expression`).
     #[tactic(auto, using(crate::proofs::Lefts::tree_left))]
     pub fn expression(self, at: &mut usize) -> Result<Expr, ParseFault>
         requires { IsOfSource self }

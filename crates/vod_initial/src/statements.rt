@@ -19,7 +19,8 @@ use vod_tree::{Expr, ForLoop, Ident, InitialKind, InitialStatement, let_go};
 /// How deeply statements may be nested: the statement of an `initial` has depth 1.
 const LIMIT: usize = 64;
 
-/// A statement of an `initial`, in which no more than 64 levels of statements stand.
+/// A statement of an `initial`, in which no more than 64 levels of statements stand. What its form reads,
+/// `initial_statements_are_exact` says: exactly these statements (`IsInitial`).
 pub fn initial_statement(reader: Reader<'_>, at: &mut usize) -> Result<InitialStatement, ParseFault>
     requires { IsOfSource reader }
     ensures { Gives result (left reader.entry at.new) ((initial_form 64).read (left reader.entry at.old)) }

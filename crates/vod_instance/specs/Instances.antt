@@ -25,8 +25,9 @@ connection place name value = record { place = place; name = name; value = value
 abbrev pub one_instance : Ident → Connections → Instance
 one_instance name x = record { name = name; connections = x }
 
+-- at the place of the module's name, which is the first token
 abbrev pub all_instances : Ident → Option Arguments → List Instance → Instances
-all_instances name x xs = record { «module» = name; arguments = x; instances = xs }
+all_instances name x xs = record { place = name.place; «module» = name; arguments = x; instances = xs }
 
 -- `. NAME ( expr )`
 pub data IsArgument : List Lexeme → NamedArgument → Type 0 where

@@ -21,7 +21,7 @@ const KINDS: [GateKind; 8] = [
     GateKind::Not,
 ];
 
-/// Whether a token comes next that begins gates.
+/// Whether a token comes next that begins gates: the word of a kind of gate, as `gates_are_exact` says (`starts`, `word`).
 pub fn is_gate(reader: Reader<'_>, at: usize) -> bool
     requires { IsOfSource reader }
     ensures { result ≡ passes starts_gate (first (left reader.entry at) None) }
@@ -29,7 +29,8 @@ pub fn is_gate(reader: Reader<'_>, at: usize) -> bool
     begins_one(reader, at, &KINDS)
 }
 
-/// Gates of one kind: its word, each gate's name or none with its terminals in parentheses, and `;`.
+/// Gates of one kind: its word, each gate's name or none with its terminals in parentheses, and `;`. What its form reads,
+/// `gates_are_exact` says: exactly the gates (`IsGate`).
 pub fn gate(reader: Reader<'_>, at: &mut usize) -> Result<Gate, ParseFault>
     requires { IsOfSource reader }
     ensures { Gives result (left reader.entry at.new) (gate_form.read (left reader.entry at.old)) }

@@ -9,7 +9,7 @@ use vod_tree::{
 };
 
 /// Instances of a module: its name, their parameters behind `#` or none, each instance's name with its connections in
-/// parentheses, and `;`.
+/// parentheses, and `;`. What its form reads, `instances_are_exact` says: exactly the instances (`AreInstances`).
 pub fn instances(reader: Reader<'_>, at: &mut usize) -> Result<Instances, ParseFault>
     requires { IsOfSource reader }
     ensures { Gives result (left reader.entry at.new) (instances_form.read (left reader.entry at.old)) }
@@ -19,6 +19,7 @@ pub fn instances(reader: Reader<'_>, at: &mut usize) -> Result<Instances, ParseF
     let instances = separated::<InstancePhrase>(reader, at)?;
     reader.word(at, Word::Semicolon)?;
     Ok(Instances {
+        place: module.place,
         module,
         arguments,
         instances,

@@ -73,11 +73,11 @@ module _ (facts : Facts) (size : ℕ) where
   always_statement w sign opener closer ts us e s a h o p q c front t (inr far) = inr (farther size (w ∷ sign ∷ opener ∷ ts) (us ++ closer ∷ front) (farther size us (closer ∷ front) (farther size (closer ∷ []) front far)))
 
   always_in : (w sign opener : Lexeme) (ts us : List Lexeme) (e : Event) (s : Option SecondEvent) → Is word.Always w → Is word.EventControl sign → Is word.OpenParen opener → IsEvent ts e → IsOptional IsSecond us s
-      → (front : List Lexeme) (t : Lexeme) → (always_body size e s).deep front t → OrFar size InItem (w ∷ sign ∷ opener ∷ (ts ++ (us ++ front))) t
+      → (front : List Lexeme) (t : Lexeme) → (always_body size w.place e s).deep front t → OrFar size InItem (w ∷ sign ∷ opener ∷ (ts ++ (us ++ front))) t
   always_in w sign opener ts us e s a h o p q front t (in_first d) = absurd d
   always_in w sign opener ts us e s a h o p q _ t (in_second {front = front} (a_word {t = closer} c) d) = always_statement w sign opener closer ts us e s a h o p q c front t (facts.statement_deep context.Always size 64 front t d)
 
-  always_deep : (w : Lexeme) → Is word.Always w → (front : List Lexeme) (t : Lexeme) → (always_form size).deep front t → OrFar size InItem (w ∷ front) t
+  always_deep : (w : Lexeme) → Is word.Always w → (front : List Lexeme) (t : Lexeme) → (always_form size w.place).deep front t → OrFar size InItem (w ∷ front) t
   always_deep w a front t (in_first d) = absurd d
   always_deep w a _ t (in_second p (in_first d)) = absurd d
   always_deep w a _ t (in_second p (in_second q (in_first {front = front} d))) = absurd (event_flat front t d)
@@ -109,7 +109,7 @@ module _ (facts : Facts) (size : ℕ) where
 
   function_in : (w : Lexeme) (qs ss rs is : List Lexeme) (name : Lexeme) (a s : Bool) (r : Option Range) (i : Option (List FunctionInput))
       → Is word.Function w → IsFlag word.Automatic qs a → IsFlag word.Signed ss s → IsOptional IsRange rs r → IsName name → IsOptional AreInputs is i
-      → (front : List Lexeme) (t : Lexeme) → (function_body size a s r (ident_of name) i).deep front t → OrFar size InItem (w ∷ (qs ++ (ss ++ (rs ++ name ∷ (is ++ front))))) t
+      → (front : List Lexeme) (t : Lexeme) → (function_body size w.place a s r (ident_of name) i).deep front t → OrFar size InItem (w ∷ (qs ++ (ss ++ (rs ++ name ∷ (is ++ front))))) t
   function_in w qs ss rs is name a s r i f p q o h j front t (in_first d) = absurd d
   function_in w qs ss rs is name a s r i f p q o h j _ t (in_second k (in_first {front = front} d)) = absurd (facts.locals_flat front t d)
   function_in w qs ss rs is name a s r i f p q o h j _ t (in_second k (in_second l (in_second m d))) = absurd d
@@ -119,7 +119,7 @@ module _ (facts : Facts) (size : ℕ) where
       by (inl b) = inl (in_function name f p q o h j k (facts.locals_are Before ds d (first front (Some t)) l) b.0 b.1)
       by (inr far) = inr (function_far w qs ss rs name is semicolon ds front far)
 
-  function_deep : (w : Lexeme) → Is word.Function w → (front : List Lexeme) (t : Lexeme) → (function_form size).deep front t → OrFar size InItem (w ∷ front) t
+  function_deep : (w : Lexeme) → Is word.Function w → (front : List Lexeme) (t : Lexeme) → (function_form size w.place).deep front t → OrFar size InItem (w ∷ front) t
   function_deep w f front t (in_first d) = absurd (flag_flat word.Automatic front t d)
   function_deep w f _ t (in_second p (in_first {front = front} d)) = absurd (flag_flat word.Signed front t d)
   function_deep w f _ t (in_second p (in_second q (in_first {front = front} d))) = absurd (facts.range_flat front t d)

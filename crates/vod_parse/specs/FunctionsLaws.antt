@@ -66,23 +66,23 @@ undeclared t e = neither (is_word word.Input t) (is_word word.Reg t) (by_input (
     by_reg false h = h
 
 module _ (facts : Facts) (size : ℕ) where
-  body_is : (qs ss rs is : List Lexeme) (t : Lexeme) (a s : Bool) (r : Option Range) (i : Option (List FunctionInput))
+  body_is : (at : ℕ) (qs ss rs is : List Lexeme) (t : Lexeme) (a s : Bool) (r : Option Range) (i : Option (List FunctionInput))
       → IsFlag word.Automatic qs a → IsFlag word.Signed ss s → IsOptional IsRange rs r → IsName t → IsOptional AreInputs is i
-      → (m : Sight) (vs : List Lexeme) (x : Function) (b : Option Lexeme) → (function_body size a s r (ident_of t) i).phrase m vs x b → IsFunction (qs ++ (ss ++ (rs ++ t ∷ (is ++ vs)))) x
-  body_is qs ss rs is t a s r i p q o h j m _ _ b (in_turn (a_word k) (in_turn {us = ds} {vs = rest} {x = d} u (in_turn {us = bs} {x = body} v (changed (a_word {t = last} l))))) =
+      → (m : Sight) (vs : List Lexeme) (x : Function) (b : Option Lexeme) → (function_body size at a s r (ident_of t) i).phrase m vs x b → IsFunction at (qs ++ (ss ++ (rs ++ t ∷ (is ++ vs)))) x
+  body_is at qs ss rs is t a s r i p q o h j m _ _ b (in_turn (a_word k) (in_turn {us = ds} {vs = rest} {x = d} u (in_turn {us = bs} {x = body} v (changed (a_word {t = last} l))))) =
       computed p q o h j k (facts.locals_are m ds d (first rest b) u) (facts.statement_are context.Function size 64 m bs body (Some last) v).is l
 
-  pub function_is : Are (function_form size) IsFunction
-  function_is m _ x b (in_turn {us = qs} {vs = v1} {x = a} p (in_turn {us = ss} {vs = v2} {x = s} q (in_turn {us = rs} {vs = v3} {x = r} o (in_turn (a_name {t = t} h) (in_turn {us = is} {vs = vs} {x = i} j u))))) =
-      body_is qs ss rs is t a s r i (flag_is word.Automatic m qs a (first v1 b) p) (flag_is word.Signed m ss s (first v2 b) q) (facts.range_are m rs r (first v3 b) o) h (facts.inputs_are m is i (first vs b) j) m vs x b u
+  pub function_is : (at : ℕ) → Are (function_form size at) (IsFunction at)
+  function_is at m _ x b (in_turn {us = qs} {vs = v1} {x = a} p (in_turn {us = ss} {vs = v2} {x = s} q (in_turn {us = rs} {vs = v3} {x = r} o (in_turn (a_name {t = t} h) (in_turn {us = is} {vs = vs} {x = i} j u))))) =
+      body_is at qs ss rs is t a s r i (flag_is word.Automatic m qs a (first v1 b) p) (flag_is word.Signed m ss s (first v2 b) q) (facts.range_are m rs r (first v3 b) o) h (facts.inputs_are m is i (first vs b) j) m vs x b u
 
   before_body : (bs : List Lexeme) (body : Statement) (o : Bool) (rest : List Lexeme) (b : Option Lexeme) → IsStatement context.Function o bs body → passes starts_function_declaration (first (bs ++ rest) b) ≡ false
   before_body bs body o rest b p =
       let s = facts.statement_starts context.Function o bs body p in
       ap (λ v. passes starts_function_declaration (first (v ++ rest) b)) s.2 ∙ undeclared s.0 s.3
 
-  pub is_function : Of (function_form size) IsFunction Anything
-  is_function m _ _ b e (computed {t = t} {semicolon = semicolon} {last = last} {qs = qs} {ss = ss} {rs = rs} {is = is} {ds = ds} {bs = bs} {a = a} {s = s} {r = r} {i = i} {d = d} {body = body} {open_ended = open_ended} p q o h j k u v l) =
+  pub is_function : (at : ℕ) → Of (function_form size at) (IsFunction at) Anything
+  is_function at m _ _ b e (computed {t = t} {semicolon = semicolon} {last = last} {qs = qs} {ss = ss} {rs = rs} {is = is} {ds = ds} {bs = bs} {a = a} {s = s} {r = r} {i = i} {d = d} {body = body} {open_ended = open_ended} p q o h j k u v l) =
       let vs : List Lexeme = is ++ semicolon ∷ (ds ++ (bs ++ last ∷ [])) in
       in_turn (is_flag word.Automatic m qs a (first (ss ++ (rs ++ t ∷ vs)) b)
       (flag_not word.Automatic word.Signed refl ss s q (rs ++ t ∷ vs) b (range_not word.Automatic refl rs r o (t ∷ vs) b (is_word-name word.Automatic t h))) p)
@@ -95,12 +95,12 @@ module _ (facts : Facts) (size : ℕ) where
       (in_turn (facts.of_statement context.Function size 64 m bs body (Some last) (record { open_ended = open_ended; is = v; closed = λ x y. is_word-other word.Else word.Endfunction last l }))
       (changed (a_word l)))))))))
 
-  body_laws : (a s : Bool) (r : Option Range) (n : Ident) (i : Option (List FunctionInput)) → Laws (function_body size a s r n i)
-  body_laws a s r n i =
+  body_laws : (at : ℕ) (a s : Bool) (r : Option Range) (n : Ident) (i : Option (List FunctionInput)) → Laws (function_body size at a s r n i)
+  body_laws at a s r n i =
       then_laws (word_form word.Semicolon) _ (word_laws word.Semicolon) (λ _. then_laws function_declarations _ facts.locals
       (λ d. then_laws (statement_form context.Function size 64) _ (facts.statement context.Function size 64) (λ body. mapped_laws _ (word_form word.Endfunction) (word_laws word.Endfunction))))
 
-  pub function_laws : Laws (function_form size)
-  function_laws =
+  pub function_laws : (at : ℕ) → Laws (function_form size at)
+  function_laws at =
       then_laws (flag word.Automatic) _ (flag_laws word.Automatic) (λ a. then_laws (flag word.Signed) _ (flag_laws word.Signed) (λ s. then_laws range_form _ facts.range
-      (λ r. then_laws name_form _ name_laws (λ n. then_laws function_inputs _ facts.inputs (λ i. body_laws a s r n i)))))
+      (λ r. then_laws name_form _ name_laws (λ n. then_laws function_inputs _ facts.inputs (λ i. body_laws at a s r n i)))))

@@ -26,9 +26,9 @@ pub data IsKind : List Lexeme → ItemKind → Type 0 where
   assigned : {t : Lexeme} {ts : List Lexeme} {xs : List Assignment} → Is word.Assign t → AreAssignments ts xs → IsKind (t ∷ ts) (kind.Assign xs)
   gated : {ts : List Lexeme} {x : Gate} → IsGate ts x → IsKind ts (kind.Gate x)
   instantiated : {ts : List Lexeme} {x : Instances} → AreInstances ts x → IsKind ts (kind.Instances x)
-  computed : {t : Lexeme} {ts : List Lexeme} {x : Function} → Is word.Function t → IsFunction ts x → IsKind (t ∷ ts) (kind.Function x)
+  computed : {t : Lexeme} {ts : List Lexeme} {x : Function} → Is word.Function t → IsFunction t.place ts x → IsKind (t ∷ ts) (kind.Function x)
   begun : {t : Lexeme} {ts : List Lexeme} {x : InitialStatement} → Is word.Initial t → IsInitial ts x → IsKind (t ∷ ts) (kind.Initial x)
-  repeated : {t : Lexeme} {ts : List Lexeme} {x : Always} → Is word.Always t → IsAlways ts x → IsKind (t ∷ ts) (kind.Always x)
+  repeated : {t : Lexeme} {ts : List Lexeme} {x : Always} → Is word.Always t → IsAlways t.place ts x → IsKind (t ∷ ts) (kind.Always x)
 
 abbrev pub item : ℕ → ItemKind → Item
 item at k = record { place = at; kind = k }

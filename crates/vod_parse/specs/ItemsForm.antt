@@ -17,13 +17,13 @@ use Rattle.vod_parse.specs.ProcessesForm.{always_form, assign_form}
 -- `initial` or `always`, or else instances
 abbrev pub process_form : ℕ → Form ItemKind
 process_form size =
-    either word.Initial (λ _. mapped (λ x. kind.Initial x) (initial_form 64)) (either word.Always (λ _. mapped (λ x. kind.Always x) (always_form size))
+    either word.Initial (λ _. mapped (λ x. kind.Initial x) (initial_form 64)) (either word.Always (λ at. mapped (λ x. kind.Always x) (always_form size at))
     (mapped (λ x. kind.Instances x) instances_form))
 
 -- continuous assignments or a function, or else those
 abbrev pub behavior_form : ℕ → Form ItemKind
 behavior_form size =
-    either word.Assign (λ _. mapped (λ xs. kind.Assign xs) (assign_form size)) (either word.Function (λ _. mapped (λ x. kind.Function x) (function_form size))
+    either word.Assign (λ _. mapped (λ xs. kind.Assign xs) (assign_form size)) (either word.Function (λ at. mapped (λ x. kind.Function x) (function_form size at))
     (process_form size))
 
 -- gates, or what isn't

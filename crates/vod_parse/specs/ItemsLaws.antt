@@ -94,12 +94,12 @@ module _ (facts : Facts) (size : ℕ) where
   -- phrases of the form are items
   process_is : Are (process_form size) IsKind
   process_is m _ _ b (led h (changed {ts = ts} {x = x} p)) = begun h (facts.initial_are 64 m ts x b p)
-  process_is m _ _ b (unled n (led h (changed {ts = ts} {x = x} p))) = repeated h (always_is facts size m ts x b p)
+  process_is m _ _ b (unled n (led {t = t} h (changed {ts = ts} {x = x} p))) = repeated h (always_is facts size t.place m ts x b p)
   process_is m _ _ b (unled n (unled i (changed {ts = ts} {x = x} p))) = instantiated (facts.instances_are m ts x b p)
 
   behavior_is : Are (behavior_form size) IsKind
   behavior_is m _ _ b (led h (changed {ts = ts} {x = x} p)) = assigned h (assign_is facts size m ts x b p)
-  behavior_is m _ _ b (unled n (led h (changed {ts = ts} {x = x} p))) = computed h (function_is facts size m ts x b p)
+  behavior_is m _ _ b (unled n (led {t = t} h (changed {ts = ts} {x = x} p))) = computed h (function_is facts size t.place m ts x b p)
   behavior_is m ts x b (unled n (unled i p)) = process_is m ts x b p
 
   pub gate_is : Are (gate_or (behavior_form size)) IsKind
@@ -132,14 +132,14 @@ module _ (facts : Facts) (size : ℕ) where
       (unled (λ z. is_word-name word.Initial t h) (unled (λ z. is_word-name word.Always t h) (changed (facts.of_instances m (t ∷ (ts ++ (us ++ s ∷ []))) x b tt (of_module h o i e))))))))
   is_kind m _ _ b n (computed {t = t} {ts = ts} {x = x} h p) =
       not_gate m word.Function t ts (kind.Function x) b h (refl, refl, refl, refl, refl, refl, refl) (λ k. (gate_others k).1)
-      (unled (λ e. is_word-other word.Assign word.Function t h) (led h (changed (is_function facts size m ts x b tt p))))
+      (unled (λ e. is_word-other word.Assign word.Function t h) (led h (changed (is_function facts size t.place m ts x b tt p))))
   is_kind m _ _ b n (begun {t = t} {ts = ts} {x = x} h p) =
       not_gate m word.Initial t ts (kind.Initial x) b h (refl, refl, refl, refl, refl, refl, refl) (λ k. (gate_others k).2)
       (unled (λ e. is_word-other word.Assign word.Initial t h) (unled (λ e. is_word-other word.Function word.Initial t h) (led h (changed (facts.of_initial 64 m ts x b tt p)))))
   is_kind m _ _ b n (repeated {t = t} {ts = ts} {x = x} h p) =
       not_gate m word.Always t ts (kind.Always x) b h (refl, refl, refl, refl, refl, refl, refl) (λ k. (gate_others k).3)
       (unled (λ e. is_word-other word.Assign word.Always t h) (unled (λ e. is_word-other word.Function word.Always t h) (unled (λ e. is_word-other word.Initial word.Always t h)
-      (led h (changed (is_always facts size m ts x b n p))))))
+      (led h (changed (is_always facts size t.place m ts x b n p))))))
 
   pub is_item : Of (item_form size) IsItem (Not word.Else)
   unfolding item_form
@@ -287,12 +287,12 @@ module _ (facts : Facts) (size : ℕ) where
 
   process_laws : Laws (process_form size)
   process_laws =
-      either_laws word.Initial _ _ (λ _. mapped_laws _ (initial_form 64) (facts.initial 64)) (either_laws word.Always _ _ (λ _. mapped_laws _ (always_form size) (always_laws facts size))
+      either_laws word.Initial _ _ (λ _. mapped_laws _ (initial_form 64) (facts.initial 64)) (either_laws word.Always _ _ (λ at. mapped_laws _ (always_form size at) (always_laws facts size at))
       (mapped_laws _ instances_form facts.instances))
 
   behavior_laws : Laws (behavior_form size)
   behavior_laws =
-      either_laws word.Assign _ _ (λ _. mapped_laws _ (assign_form size) (assign_laws facts size)) (either_laws word.Function _ _ (λ _. mapped_laws _ (function_form size) (function_laws facts size)) process_laws)
+      either_laws word.Assign _ _ (λ _. mapped_laws _ (assign_form size) (assign_laws facts size)) (either_laws word.Function _ _ (λ at. mapped_laws _ (function_form size at) (function_laws facts size at)) process_laws)
 
   kind_laws : Laws (kind_form size)
   kind_laws =

@@ -3,6 +3,7 @@ use Rattle.std.specs.Prelude.{◌≡◌, ℕ, List, [], ◌∷◌, ◌++◌, Opt
 use Rattle.vod_tree.specs.declared.declaration.ParameterPort.{ParameterPort}
 use Rattle.vod_tree.specs.declared.declaration.Ports.{Ports}
 use Rattle.vod_tree.specs.declared.ident.Ident.{Ident}
+use Rattle.vod_tree.specs.declared.«module».Directive.{Directive}
 use Rattle.vod_tree.specs.declared.«module».Item.{Item}
 use Rattle.vod_tree.specs.declared.«module».Module.{Module}
 use Rattle.vod_tree.specs.declared.«module».SourceItem.{SourceItem}
@@ -14,7 +15,7 @@ use Rattle.vod_grammar.specs.declared.word.Word.TheVariants as word
 use Rattle.vod_declaration.specs.Parameters.{AreParameterPorts}
 use Rattle.vod_declaration.specs.Parts.{IsOptional}
 use Rattle.vod_declaration.specs.Ports.{IsPortList}
-use Rattle.vod_directive.specs.DirectiveForm.{IsDirective, directive_at}
+use Rattle.vod_directive.specs.Meaning.{IsDirective}
 use Rattle.vod_parse.specs.Items.{AreItems}
 
 -- how many tokens a module has, as far as 32 bits can say
@@ -37,7 +38,7 @@ pub data IsModule : List Lexeme → Module → Type 0 where
 
 -- a directive or a module
 pub data IsPart : List Lexeme → SourceItem → Type 0 where
-  of_directive : {t : Lexeme} → IsDirective t → IsPart (t ∷ []) (part.Directive (directive_at t))
+  of_directive : {t : Lexeme} {x : Directive} → IsDirective t x → IsPart (t ∷ []) (part.Directive x)
   of_module : {ts : List Lexeme} {x : Module} → IsModule ts x → IsPart ts (part.Module x)
 
 pub data AreParts : List Lexeme → List SourceItem → Type 0 where

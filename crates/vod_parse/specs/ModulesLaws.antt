@@ -4,6 +4,7 @@ use Rattle.std.specs.Str.{bytes_eq}
 use Rattle.vod_token.specs.declared.TokenKind.TheVariants as kinds
 use Rattle.vod_tree.specs.declared.declaration.ParameterPort.{ParameterPort}
 use Rattle.vod_tree.specs.declared.declaration.Ports.{Ports}
+use Rattle.vod_tree.specs.declared.«module».Directive.{Directive}
 use Rattle.vod_tree.specs.declared.«module».Item.{Item}
 use Rattle.vod_tree.specs.declared.«module».Module.{Module}
 use Rattle.vod_tree.specs.declared.«module».SourceItem.{SourceItem}
@@ -30,7 +31,8 @@ use Rattle.vod_declaration.specs.ParametersForm.{parameter_ports}
 use Rattle.vod_declaration.specs.Ports as ports
 use Rattle.vod_declaration.specs.Ports.{IsPortList}
 use Rattle.vod_declaration.specs.PortsForm.{port_list}
-use Rattle.vod_directive.specs.DirectiveForm.{IsDirective, a_directive, directive_form}
+use Rattle.vod_directive.specs.DirectiveForm.{a_directive, directive_form}
+use Rattle.vod_directive.specs.Meaning.{IsDirective}
 use Rattle.vod_parse.specs.Facts.{Facts, Not, Are, Of, Anything}
 use Rattle.vod_parse.specs.Items.{AreItems}
 use Rattle.vod_parse.specs.ItemsForm.{items_form}
@@ -42,9 +44,9 @@ no_head : {t : Lexeme} {ts : List Lexeme} → [] ≡ t ∷ ts → ⊥
 no_head h = cc
 
 -- no word is a directive
-directive_word : (w : Word) → same_kind kinds.Directive (kind_of w) ≡ false → (t : Lexeme) → IsDirective t → is_word w t ≡ false
+directive_word : (w : Word) → same_kind kinds.Directive (kind_of w) ≡ false → (t : Lexeme) (x : Directive) → IsDirective t x → is_word w t ≡ false
 unfolding is_text_of
-directive_word w e t h = ap (λ k. same_kind k (kind_of w) && bytes_eq t.text (spelling w)) h ∙ ap (λ v. v && bytes_eq t.text (spelling w)) e
+directive_word w e t x h = ap (λ k. same_kind k (kind_of w) && bytes_eq t.text (spelling w)) h.kind ∙ ap (λ v. v && bytes_eq t.text (spelling w)) e
 
 module _ (facts : Facts) (size : ℕ) where
   pub header_is : Are header_form (IsOptional AreOverridable)
@@ -102,7 +104,7 @@ module _ (facts : Facts) (size : ℕ) where
   pub is_part : Of (part_form size) IsPart Anything
   unfolding part_form
   is_part m ts _ b a (of_module {x = x} p) = the_one (λ e. starts_module ts x p) (changed (is_module m ts x b tt p))
-  is_part m _ _ b a (of_directive {t = t} h) = the_other (λ e. directive_word word.Module refl t h) (changed (a_directive h))
+  is_part m _ _ b a (of_directive {t = t} {x = x} h) = the_other (λ e. directive_word word.Module refl t x h) (changed (a_directive h))
 
   pub part_none : (ts : List Lexeme) (x : SourceItem) → IsPart ts x → ts ≡ [] → ⊥
   part_none ts _ (of_module (enclosed h k p q e r z split)) n = no_head (sym n ∙ split)

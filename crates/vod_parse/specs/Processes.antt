@@ -28,8 +28,8 @@ event at e n = record { place = at; edge = e; name = n }
 abbrev pub second_event : Separator → Event → SecondEvent
 second_event s e = record { separator = s; event = e }
 
-abbrev pub always : Event → Option SecondEvent → Statement → Always
-always e s body = record { event = e; second = s; body = body }
+abbrev pub always : ℕ → Event → Option SecondEvent → Statement → Always
+always at e s body = record { place = at; event = e; second = s; body = body }
 
 abbrev pub assignment : Lval → Expr → Assignment
 assignment target value = record { target = target; value = value }
@@ -52,12 +52,12 @@ pub data IsEvent : List Lexeme → Event → Type 0 where
 pub data IsSecond : List Lexeme → SecondEvent → Type 0 where
   second : {t : Lexeme} {ts : List Lexeme} {s : Separator} {e : Event} → Is (separator_word s) t → IsEvent ts e → IsSecond (t ∷ ts) (second_event s e)
 
--- Behind "always": "@" "(" event [ ( "or" | "," ) event ] ")" and a clocked statement.
-pub data IsAlways : List Lexeme → Always → Type 0 where
+-- Behind "always", which stands at this place: "@" "(" event [ ( "or" | "," ) event ] ")" and a clocked statement.
+pub data IsAlways (at : ℕ) : List Lexeme → Always → Type 0 where
   controlled : {sign opener closer : Lexeme} {ts us vs : List Lexeme} {e : Event} {s : Option SecondEvent} {body : Statement} {open_ended : Bool}
       → Is word.EventControl sign → Is word.OpenParen opener → IsEvent ts e → IsOptional IsSecond us s → Is word.CloseParen closer
       → IsStatement context.Always open_ended vs body
-      → IsAlways (sign ∷ opener ∷ (ts ++ (us ++ closer ∷ vs))) (always e s body)
+      → IsAlways at (sign ∷ opener ∷ (ts ++ (us ++ closer ∷ vs))) (always at e s body)
 
 -- lval "=" expr
 pub data IsAssignment : List Lexeme → Assignment → Type 0 where

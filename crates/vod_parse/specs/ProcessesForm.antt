@@ -33,12 +33,13 @@ abbrev pub second_form : Form (Option SecondEvent)
 second_form = either word.Or (λ _. second_behind separator.Or) (either word.Comma (λ _. second_behind separator.Comma) (give None))
 
 -- behind the events: `)` and the statement
-abbrev pub always_body : ℕ → Event → Option SecondEvent → Form Always
-always_body size e s = then (word_form word.CloseParen) (λ _. mapped (λ body. always e s body) (statement_form context.Always size 64))
+abbrev pub always_body : ℕ → ℕ → Event → Option SecondEvent → Form Always
+always_body size at e s = then (word_form word.CloseParen) (λ _. mapped (λ body. always at e s body) (statement_form context.Always size 64))
 
-abbrev pub always_form : ℕ → Form Always
-always_form size =
-    then (word_form word.EventControl) (λ _. then (word_form word.OpenParen) (λ _. then event_form (λ e. then second_form (λ s. always_body size e s))))
+-- behind `always` at this place
+abbrev pub always_form : ℕ → ℕ → Form Always
+always_form size at =
+    then (word_form word.EventControl) (λ _. then (word_form word.OpenParen) (λ _. then event_form (λ e. then second_form (λ s. always_body size at e s))))
 
 -- behind a left side: `=` and a value
 abbrev pub value_form : Lval → Form Assignment

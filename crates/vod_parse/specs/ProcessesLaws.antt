@@ -48,17 +48,17 @@ is_second m _ _ b e (something (second {ts = ts} {s = separator.Or} {e = x} h p)
 is_second m _ _ b e (something (second {t = t} {ts = ts} {s = separator.Comma} {e = x} h p)) = unled (λ z. is_word-other word.Or word.Comma t h) (led h (changed (is_event m ts x b tt p)))
 
 module _ (facts : Facts) (size : ℕ) where
-  body_is : (sign opener : Lexeme) (ts us : List Lexeme) (e : Event) (s : Option SecondEvent) → Is word.EventControl sign → Is word.OpenParen opener → IsEvent ts e → IsOptional IsSecond us s
-      → (m : Sight) (vs : List Lexeme) (x : Always) (b : Option Lexeme) → (always_body size e s).phrase m vs x b → IsAlways (sign ∷ opener ∷ (ts ++ (us ++ vs))) x
-  body_is sign opener ts us e s h o p q m _ _ b (in_turn (a_word c) (changed {ts = vs} {x = body} r)) = controlled h o p q c (facts.statement_are context.Always size 64 m vs body b r).is
+  body_is : (at : ℕ) (sign opener : Lexeme) (ts us : List Lexeme) (e : Event) (s : Option SecondEvent) → Is word.EventControl sign → Is word.OpenParen opener → IsEvent ts e → IsOptional IsSecond us s
+      → (m : Sight) (vs : List Lexeme) (x : Always) (b : Option Lexeme) → (always_body size at e s).phrase m vs x b → IsAlways at (sign ∷ opener ∷ (ts ++ (us ++ vs))) x
+  body_is at sign opener ts us e s h o p q m _ _ b (in_turn (a_word c) (changed {ts = vs} {x = body} r)) = controlled h o p q c (facts.statement_are context.Always size 64 m vs body b r).is
 
-  pub always_is : Are (always_form size) IsAlways
-  always_is m _ x b (in_turn (a_word {t = sign} h) (in_turn (a_word {t = opener} o) (in_turn {us = ts} {vs = rest} {x = e} p (in_turn {us = us} {vs = vs} {x = s} q r)))) =
-      body_is sign opener ts us e s h o (event_is m ts e (first rest b) p) (second_is m us s (first vs b) q) m vs x b r
+  pub always_is : (at : ℕ) → Are (always_form size at) (IsAlways at)
+  always_is at m _ x b (in_turn (a_word {t = sign} h) (in_turn (a_word {t = opener} o) (in_turn {us = ts} {vs = rest} {x = e} p (in_turn {us = us} {vs = vs} {x = s} q r)))) =
+      body_is at sign opener ts us e s h o (event_is m ts e (first rest b) p) (second_is m us s (first vs b) q) m vs x b r
 
   -- before no `else`, since an `else` would belong to the statement
-  pub is_always : Of (always_form size) IsAlways (Not word.Else)
-  is_always m _ _ b n (controlled {closer = closer} {ts = ts} {us = us} {vs = vs} {e = e} {s = s} {body = body} {open_ended = open_ended} h o p q c r) =
+  pub is_always : (at : ℕ) → Of (always_form size at) (IsAlways at) (Not word.Else)
+  is_always at m _ _ b n (controlled {closer = closer} {ts = ts} {us = us} {vs = vs} {e = e} {s = s} {body = body} {open_ended = open_ended} h o p q c r) =
       in_turn (a_word h) (in_turn (a_word o) (in_turn (is_event m ts e (first (us ++ closer ∷ vs) b) tt p)
       (in_turn (is_second m us s (Some closer) (is_word-other word.Or word.CloseParen closer c, is_word-other word.Comma word.CloseParen closer c) q)
       (in_turn (a_word c) (changed (facts.of_statement context.Always size 64 m vs body b (record { open_ended = open_ended; is = r; closed = λ k z. n })))))))
@@ -69,13 +69,13 @@ module _ (facts : Facts) (size : ℕ) where
   second_laws : Laws second_form
   second_laws = either_laws word.Or _ _ (λ _. mapped_laws _ event_form event_laws) (either_laws word.Comma _ _ (λ _. mapped_laws _ event_form event_laws) (give_laws None))
 
-  body_laws : (e : Event) (s : Option SecondEvent) → Laws (always_body size e s)
-  body_laws e s = then_laws (word_form word.CloseParen) _ (word_laws word.CloseParen) (λ _. mapped_laws _ (statement_form context.Always size 64) (facts.statement context.Always size 64))
+  body_laws : (at : ℕ) (e : Event) (s : Option SecondEvent) → Laws (always_body size at e s)
+  body_laws at e s = then_laws (word_form word.CloseParen) _ (word_laws word.CloseParen) (λ _. mapped_laws _ (statement_form context.Always size 64) (facts.statement context.Always size 64))
 
-  pub always_laws : Laws (always_form size)
-  always_laws =
+  pub always_laws : (at : ℕ) → Laws (always_form size at)
+  always_laws at =
       then_laws (word_form word.EventControl) _ (word_laws word.EventControl) (λ _. then_laws (word_form word.OpenParen) _ (word_laws word.OpenParen)
-      (λ _. then_laws event_form _ event_laws (λ e. then_laws second_form _ second_laws (λ s. body_laws e s))))
+      (λ _. then_laws event_form _ event_laws (λ e. then_laws second_form _ second_laws (λ s. body_laws at e s))))
 
   -- assignments
   driven_is : (ts : List Lexeme) (target : Lval) → IsLval ts target → (m : Sight) (us : List Lexeme) (x : Assignment) (b : Option Lexeme)

@@ -11,9 +11,10 @@ use vod_grammar::{Reader, Word};
 use vod_statement::{Context, statement};
 use vod_tree::{Function, FunctionDeclaration, FunctionInput, Ident, Range, Statement, let_go};
 
-// How a function's result is declared.
+// The place of a function, and how its result is declared.
 #[derive(Drop)]
 struct Returned {
+    place: u32,
     automatic: bool,
     signed: bool,
     range: Option<Range>,
@@ -26,15 +27,20 @@ struct Header {
     inputs: Option<Items<FunctionInput>>,
 }
 
-// Behind `function`: its header, its declarations, its statement and `endfunction`.
-pub(crate) fn function(reader: Reader<'_>, at: &mut usize) -> Result<Function, ParseFault>
+// Behind `function` at this place: its header, its declarations, its statement and `endfunction`.
+pub(crate) fn function(
+    reader: Reader<'_>,
+    at: &mut usize,
+    place: u32,
+) -> Result<Function, ParseFault>
     requires { IsOfSource reader }
-    ensures { Gives result (left reader.entry at.new) ((function_form (length reader.entry.tokens.now)).read (left reader.entry at.old)) }
+    ensures { Gives result (left reader.entry at.new) ((function_form (length reader.entry.tokens.now) place).read (left reader.entry at.old)) }
 {
     let automatic = reader.flag(at, Word::Automatic);
     let signed = reader.flag(at, Word::Signed);
     let range = range(reader, at)?;
     let returned = Returned {
+        place,
         automatic,
         signed,
         range,
@@ -46,7 +52,7 @@ pub(crate) fn function(reader: Reader<'_>, at: &mut usize) -> Result<Function, P
 fn named(reader: Reader<'_>, at: &mut usize, returned: Returned) -> Result<Function, ParseFault>
     requires { IsOfSource reader }
     ensures { Gives result (left reader.entry at.new)
-        ((function_named (length reader.entry.tokens.now) returned.automatic returned.signed returned.range).read (left reader.entry at.old)) }
+        ((function_named (length reader.entry.tokens.now) returned.place returned.automatic returned.signed returned.range).read (left reader.entry at.old)) }
 {
     let name = match reader.name(at) {
         Ok(name) => name,
@@ -73,7 +79,7 @@ fn declared(
 ) -> Result<Function, ParseFault>
     requires { IsOfSource reader }
     ensures { Gives result (left reader.entry at.new)
-        ((function_body (length reader.entry.tokens.now) returned.automatic returned.signed returned.range header.name header.inputs).read (left reader.entry at.old)) }
+        ((function_body (length reader.entry.tokens.now) returned.place returned.automatic returned.signed returned.range header.name header.inputs).read (left reader.entry at.old)) }
 {
     if let Err(fault) = reader.word(at, Word::Semicolon) {
         let_go(returned);
@@ -100,7 +106,7 @@ fn computed(
 ) -> Result<Function, ParseFault>
     requires { IsOfSource reader }
     ensures { Gives result (left reader.entry at.new)
-        ((function_statement (length reader.entry.tokens.now) returned.automatic returned.signed returned.range header.name header.inputs declarations).read (left reader.entry at.old)) }
+        ((function_statement (length reader.entry.tokens.now) returned.place returned.automatic returned.signed returned.range header.name header.inputs declarations).read (left reader.entry at.old)) }
 {
     match statement(reader, at, Context::Function) {
         Ok(body) => ended(reader, at, whole(returned, header, declarations, body)),
@@ -120,15 +126,17 @@ fn whole(
     declarations: Items<FunctionDeclaration>,
     body: Statement,
 ) -> Function
-    ensures { result ≡ function returned.automatic returned.signed returned.range header.name header.inputs declarations body }
+    ensures { result ≡ function returned.place returned.automatic returned.signed returned.range header.name header.inputs declarations body }
 {
     let Returned {
+        place,
         automatic,
         signed,
         range,
     } = returned;
     let Header { name, inputs } = header;
     Function {
+        place,
         automatic,
         signed,
         range,

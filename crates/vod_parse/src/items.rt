@@ -82,7 +82,7 @@ fn behavior(reader: Reader<'_>, at: &mut usize) -> Result<ItemKind, ParseFault>
     match reader.takes(at, Word::Assign) {
         Some(_) => Ok(ItemKind::Assign(assignments(reader, at)?)),
         None => match reader.takes(at, Word::Function) {
-            Some(_) => Ok(ItemKind::Function(function(reader, at)?)),
+            Some(place) => Ok(ItemKind::Function(function(reader, at, place)?)),
             None => process(reader, at),
         },
     }
@@ -96,7 +96,7 @@ fn process(reader: Reader<'_>, at: &mut usize) -> Result<ItemKind, ParseFault>
     match reader.takes(at, Word::Initial) {
         Some(_) => Ok(ItemKind::Initial(initial_statement(reader, at)?)),
         None => match reader.takes(at, Word::Always) {
-            Some(_) => Ok(ItemKind::Always(always(reader, at)?)),
+            Some(place) => Ok(ItemKind::Always(always(reader, at, place)?)),
             None => Ok(ItemKind::Instances(instances(reader, at)?)),
         },
     }

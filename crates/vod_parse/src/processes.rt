@@ -13,10 +13,10 @@ use vod_grammar::{Reader, Word};
 use vod_statement::{Context, left_side, statement};
 use vod_tree::{Always, Assignment, Edge, Event, Lval, SecondEvent, Separator, let_go};
 
-// Behind `always`: its events and its statement.
-pub(crate) fn always(reader: Reader<'_>, at: &mut usize) -> Result<Always, ParseFault>
+// Behind `always` at this place: its events and its statement.
+pub(crate) fn always(reader: Reader<'_>, at: &mut usize, place: u32) -> Result<Always, ParseFault>
     requires { IsOfSource reader }
-    ensures { Gives result (left reader.entry at.new) ((always_form (length reader.entry.tokens.now)).read (left reader.entry at.old)) }
+    ensures { Gives result (left reader.entry at.new) ((always_form (length reader.entry.tokens.now) place).read (left reader.entry at.old)) }
 {
     reader.word(at, Word::EventControl)?;
     reader.word(at, Word::OpenParen)?;
@@ -25,6 +25,7 @@ pub(crate) fn always(reader: Reader<'_>, at: &mut usize) -> Result<Always, Parse
     reader.word(at, Word::CloseParen)?;
     let body = statement(reader, at, Context::Always)?;
     Ok(Always {
+        place,
         event,
         second,
         body,

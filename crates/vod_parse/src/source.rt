@@ -1,5 +1,6 @@
 //! Sources.
-ghost use Rattle.std.specs.Prelude.{◌≡◌, ◌≢◌, List, length, All, IfOk, IfErr, MatchResult};
+ghost use Rattle.std.specs.Prelude.{◌≡◌, ◌≢◌, List, length, All, None, IfOk, IfErr, MatchResult};
+ghost use Rattle.vod_token.specs.Nesting.{deep_at};
 ghost use Rattle.vod_token.specs.Span.{IsTokenOf};
 ghost use Rattle.vod_tree.specs.declared.«module».Tree.{Tree};
 ghost use Rattle.vod_expr.specs.Grammar.{Lexeme, lexemes};
@@ -20,9 +21,11 @@ use vod_tree::Tree;
 
 /// The tree of a source: exactly where its tokens are a sentence of the grammar in which no statement has a depth past 64. Else it
 /// is refused at the first token such that no sentence begins with the tokens up to it (`At`), where the tokens end too early
-/// (`End`), or at the first token that begins a statement of depth 65 (`Statement`).
+/// (`End`), or at the first token that begins a statement of depth 65 (`Statement`). The nesting of the tokens stays within 64, so
+/// no call goes deeper than 64 statements and 64 brackets; `tokens` of `vod_token` gives no others (`shallow`).
 pub fn read_source(alloc: Global, source: &[u8], tokens: &[Token]) -> Result<Tree, ParseFault>
-    requires { All (IsTokenOf source.now) tokens.now }
+    requires tokens { All (IsTokenOf source.now) tokens.now }
+    requires nested { deep_at source.now tokens.now ≡ None }
     ensures ok { IfOk result (λ tree. IsWhole IsSource IsTooDeep (lexemes source.now tokens.now) tree) }
     ensures err { IfErr result (λ fault. (fault ≢ ParseFault.Memory) → Refuses IsSource IsTooDeep (lexemes source.now tokens.now) fault) }
 
@@ -40,7 +43,8 @@ pub fn read_source(alloc: Global, source: &[u8], tokens: &[Token]) -> Result<Tre
 
 // The same, as the reader finds it.
 fn read(alloc: Global, source: &[u8], tokens: &[Token]) -> Result<Tree, ParseFault>
-    requires { All (IsTokenOf source.now) tokens.now }
+    requires tokens { All (IsTokenOf source.now) tokens.now }
+    requires nested { deep_at source.now tokens.now ≡ None }
     ensures { (rest : List Lexeme) × Gives result rest ((source_form (length tokens.now)).read (lexemes source.now tokens.now)) }
 {
     let reader = Reader {

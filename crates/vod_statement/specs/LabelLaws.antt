@@ -3,7 +3,7 @@ use Rattle.std.specs.Prelude.{◌≡◌, false, List, Option, None}
 use Rattle.vod_tree.specs.declared.ident.Ident.{Ident}
 use Rattle.vod_expr.specs.Grammar.{Lexeme}
 use Rattle.vod_grammar.specs.EitherLaws.{either_laws}
-use Rattle.vod_grammar.specs.Form.{Sight, a_name, nothing, changed, led, unled, name_form}
+use Rattle.vod_grammar.specs.Form.{Sight, a_name, nothing, changed, led, unled, in_led, in_other, name_form}
 use Rattle.vod_grammar.specs.Laws.{Laws}
 use Rattle.vod_grammar.specs.PartLaws.{mapped_laws}
 use Rattle.vod_grammar.specs.Read.{passes}
@@ -22,3 +22,7 @@ label_into m _ _ b n unlabelled = unled (λ e. n) nothing
 
 pub label_laws : Laws label_form
 label_laws = either_laws word.Colon _ _ (λ _. mapped_laws _ name_form name_laws) (give_laws None)
+
+pub label_shallow : (front : List Lexeme) (t : Lexeme) → label_form.deep front t → ⊥
+label_shallow _ t (in_led h d) = d
+label_shallow _ t (in_other n d) = d

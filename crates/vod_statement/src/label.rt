@@ -6,7 +6,8 @@ use vod_expr::ParseFault;
 use vod_grammar::{Reader, Word};
 use vod_tree::Ident;
 
-/// The name of a block, behind its `begin`: `: NAME` or nothing.
+/// The name of a block, behind its `begin`: `: NAME` or nothing. What its form reads, `block_names_are_exact` says: exactly that
+/// (`IsLabel`).
 pub fn block_name(reader: Reader<'_>, at: &mut usize) -> Result<Option<Ident>, ParseFault>
     requires { IsOfSource reader }
     ensures { Gives result (left reader.entry at.new) (label_form.read (left reader.entry at.old)) }

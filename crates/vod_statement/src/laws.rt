@@ -1,14 +1,16 @@
 //! What the forms of left sides and statements keep.
 ghost use Rattle.std.specs.Prelude.{◌≡◌, ◌≤◌, ◌⊎◌, ◌∷◌, ℕ, Bool, true, false, List, Option, length};
 ghost use Rattle.vod_expr.specs.Grammar.{Lexeme};
+ghost use Rattle.vod_tree.specs.declared.ident.Ident.{Ident};
 ghost use Rattle.vod_tree.specs.declared.statement.Lval.{Lval};
 ghost use Rattle.vod_tree.specs.declared.statement.Statement.{Statement};
 ghost use Rattle.vod_grammar.specs.Form.{Sight};
 ghost use Rattle.vod_grammar.specs.Laws.{Laws};
 ghost use Rattle.vod_grammar.specs.Read.{passes};
 ghost use Rattle.vod_grammar.specs.Words.{is_word};
-ghost use Rattle.vod_grammar.specs.declared.word.Word.TheVariants.{OpenBracket};
+ghost use Rattle.vod_grammar.specs.declared.word.Word.TheVariants.{Colon, OpenBracket};
 ghost use Rattle.vod_statement.specs.Depth.{Below};
+ghost use Rattle.vod_statement.specs.Label.{IsLabel, label_form};
 ghost use Rattle.vod_statement.specs.LeftSide.{IsLval};
 ghost use Rattle.vod_statement.specs.LeftSideForm.{lval_form, starts_lval};
 ghost use Rattle.vod_statement.specs.StatementForm.{StatementPhrase, starts_statement, statement_form};
@@ -32,6 +34,16 @@ pub fn left_sides_are_exact()
     // Words, names and expressions are read exactly, of which the form is made.
     phrases_are_exact();
 }
+
+/// The name of a block, or nothing, is read exactly: the phrases of its form are these, where no `:` follows nothing. Nothing in
+/// it is nested too deep.
+pub fn block_names_are_exact()
+    ensures laws { Laws label_form }
+    ensures phrase { (m : Sight) (ts : List Lexeme) (x : Option Ident) (b : Option Lexeme) → label_form.phrase m ts x b → IsLabel ts x }
+    ensures label { (m : Sight) (ts : List Lexeme) (x : Option Ident) (b : Option Lexeme) →
+        passes (is_word Colon) b ≡ false → IsLabel ts x → label_form.phrase m ts x b }
+    ensures shallow { (front : List Lexeme) (t : Lexeme) → label_form.deep front t → ⊥ }
+{}
 
 /// Statements are read exactly, and refused at the first token with which none goes on: the phrases of their form are the
 /// statements, where no `else` follows one that ends in an `if` without `else`. One is nested too deep where a token begins it

@@ -9,6 +9,6 @@ mod statements;
 
 pub use context::Context;
 pub use label::block_name;
-pub use laws::{left_sides_are_exact, statements_are_exact};
+pub use laws::{block_names_are_exact, left_sides_are_exact, statements_are_exact};
 pub use sides::left_side;
 pub use statements::statement;

@@ -14,7 +14,7 @@ use vod_grammar::{Reader, Word};
 use vod_tree::{Expr, Ident, Lval, LvalKind, let_go};
 
 /// A left side: a name, with a select or without one, or a concatenation of left sides. No more of them are nested than there
-/// are tokens.
+/// are tokens. What its form reads, `left_sides_are_exact` says: exactly the left sides (`IsLval`).
 pub fn left_side(reader: Reader<'_>, at: &mut usize) -> Result<Lval, ParseFault>
     requires { IsOfSource reader }
     ensures { Gives result (left reader.entry at.new) ((lval_form (length reader.entry.tokens.now)).read (left reader.entry at.old)) }

@@ -20,7 +20,8 @@ use vod_tree::{CaseItem, CaseLabel, Expr, Lval, Statement, StatementKind, let_go
 /// How deeply statements may be nested: the body of an `always` or of a function has depth 1.
 const LIMIT: usize = 64;
 
-/// A statement of an `always` or of a function, in which no more than 64 levels of statements stand.
+/// A statement of an `always` or of a function, in which no more than 64 levels of statements stand. What its form reads,
+/// `statements_are_exact` says: exactly the statements (`IsStatement`).
 pub fn statement(
     reader: Reader<'_>,
     at: &mut usize,

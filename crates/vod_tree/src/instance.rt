@@ -68,9 +68,10 @@ pub struct Instance {
     pub connections: Connections,
 }
 
-/// The name of a module, its parameters or none, and its instances (12.1.2).
+/// The name of a module, its parameters or none, and its instances; its place is that of the module's name (12.1.2).
 #[derive(Drop)]
 pub struct Instances {
+    pub place: u32,
     pub module: Ident,
     pub arguments: Option<Arguments>,
     pub instances: Items<Instance>,

@@ -1,4 +1,7 @@
 //! Functions, modules and whole sources (IEEE 1364-2005, clauses 10, 12 and 19).
+ghost use Rattle.std.specs.Prelude.{◌≡◌, ◌*◌, ◌^◌};
+ghost use Rattle.vod_tree.specs.Times.{count_number, count_exponent, per_second, time_exponent, unit_exponent};
+
 use crate::{
     Always, Assignment, Gate, Ident, InitialStatement, Instances, NetDeclaration,
     ParameterDeclaration, ParameterPort, Ports, Range, RegDeclaration, Statement,
@@ -39,9 +42,10 @@ pub enum FunctionDeclaration {
 }
 
 /// A function: its result's sign and range, its name, the inputs of its header, if it has one, what it declares, and its
-/// statement (10.4.1).
+/// statement; its place is that of `function` (10.4.1).
 #[derive(Drop)]
 pub struct Function {
+    pub place: u32,
     pub automatic: bool,
     pub signed: bool,
     pub range: Option<Range>,
@@ -109,11 +113,52 @@ pub enum TimeUnit {
     Fs,
 }
 
+impl TimeCount {
+    /// The power of ten that it is: 0, 1 or 2.
+    pub fn exponent(self) -> u8
+        ensures is { result ≡ count_exponent self }
+        ensures power { 10 ^ result ≡ count_number self }
+    {
+        match self {
+            TimeCount::One => 0,
+            TimeCount::Ten => 1,
+            TimeCount::Hundred => 2,
+        }
+    }
+}
+
+impl TimeUnit {
+    /// By how many powers of ten it is shorter than a second: 0, 3, 6, 9, 12 or 15.
+    pub fn exponent(self) -> u8
+        ensures is { result ≡ unit_exponent self }
+        ensures power { 10 ^ result ≡ per_second self }
+    {
+        match self {
+            TimeUnit::S => 0,
+            TimeUnit::Ms => 3,
+            TimeUnit::Us => 6,
+            TimeUnit::Ns => 9,
+            TimeUnit::Ps => 12,
+            TimeUnit::Fs => 15,
+        }
+    }
+}
+
 /// A time, as `10 ns`.
 #[derive(Clone, Copy, PartialEq, Eq)]
 pub struct Time {
     pub count: TimeCount,
     pub unit: TimeUnit,
+}
+
+impl Time {
+    /// By how many powers of ten it is shorter than 100 seconds, from 0 to 17: of two times the shorter has more.
+    pub fn exponent(self) -> u8
+        ensures is { result ≡ time_exponent self }
+        ensures power { count_number self.count * 10 ^ result ≡ 100 * per_second self.unit }
+    {
+        self.unit.exponent() + (2 - self.count.exponent())
+    }
 }
 
 /// What a name without declaration is: refused, or a net (19.2).

@@ -101,9 +101,10 @@ pub struct SecondEvent {
     pub event: Event,
 }
 
-/// `always @ ( .. ) statement` (9.9.2).
+/// `always @ ( .. ) statement`; its place is that of `always` (9.9.2).
 #[derive(Drop)]
 pub struct Always {
+    pub place: u32,
     pub event: Event,
     pub second: Option<SecondEvent>,
     pub body: Statement,

@@ -22,7 +22,7 @@ few : (c : goal.After-read) → length (lexemes c.args.source.now c.args.tokens.
 few c = let e = length-map c.args.tokens.now (lexeme c.args.source.now) in omega (arith, e)
 
 own : (c : goal.After-read) → AreLexemes (lexemes c.args.source.now c.args.tokens.now)
-own c = recursion_from_All IsLexeme (lexemes c.args.source.now c.args.tokens.now) (c.source_lexemes.ensures c.args.source.now c.args.tokens.now c.requires)
+own c = recursion_from_All IsLexeme (lexemes c.args.source.now c.args.tokens.now) (c.source_lexemes.ensures c.args.source.now c.args.tokens.now c.requires.tokens)
 
 pub returns-clause-ok : goal.returns-clause-ok
 returns-clause-ok c = ok_is (known c) (length c.args.tokens.now) (lexemes c.args.source.now c.args.tokens.now) (few c) (own c) c.read.result c.read.ensures.0 c.read.ensures.1
