@@ -18,7 +18,7 @@ fn words(rt: HostRuntime) -> Result<Vec<String>, AllocError> {
 
 fn status(rt: HostRuntime) -> Status {
     match words(rt) {
-        Ok(words) => run(rt, words.as_slice(), &mut StdSource::new(rt)),
+        Ok(words) => run(rt.alloc(), rt, words.as_slice(), &mut StdSource::new(rt)),
         Err(AllocError) => report(Fault::Memory, &mut StdSink::new(rt, true)),
     }
 }

@@ -99,6 +99,7 @@ recorded_by i deck r m c fresh file (e, may, few, said) asks (inr (k, h)) = (
       record {
         most = h.most;
         sound = h.sound;
+        batches = h.batches;
         front = h.front;
         text = h.text ∙ ap (λ t. t ++ h.front) said;
         begins = h.begins;

@@ -10,7 +10,7 @@ use Rattle.vod_log.specs.Format.{committed, counts_of}
 use Rattle.vod_log.specs.Opened.{records_of, IsWrongAt}
 use Rattle.vod_thin_script.specs.Script.{IsScript, IsRefused}
 use Rattle.vod_thin_code.specs.Held.{IsHeld, IsSound, IsEmpty, Acknowledges, said}
-use Rattle.vod_thin_store.specs.Stored.{HasSaid, Adds}
+use Rattle.vod_thin_store.specs.Stored.{HasSaid, HoldsBatches, Adds}
 use Rattle.vod_thin_replay.specs.Range.{range_of, first_image}
 use Rattle.vod_thin_replay.specs.Replay.{HoldsSource, IsReadUpTo, IsHeadDamagedAt, IsDamagedAt, IsDamagedUpTo}
 use Rattle.vod_thin_window.specs.Request.{Request, dump_of, window_of, IsWritten, IsBegun}
@@ -126,12 +126,13 @@ DumpAnswers i out (Err failed.Memory) = (out.after ≡ out.before) ⊎ AsksFor i
 abbrev pub IsFresh : Device → Type 0
 IsFresh deck = length deck.before.bytes ≤ 1
 
--- all was recorded: whatever a crash leaves, the log is sound and holds the source and the vectors, and behind the longest
--- text of before their acknowledgements were said
+-- all was recorded: whatever a crash leaves, the log is sound and holds the source and the vectors, in batches of 64 and a
+-- rest, and behind the longest text of before their acknowledgements were said
 pub record IsRecorded (deck : Device) (r : Request) : Type 0 where
   pub few : length r.vectors < 4096
   pub fresh : deck.told → IsFresh deck
   pub sound : deck.told → IsSound r.design r.source 4096 r.vectors deck.after.bytes
+  pub batches : deck.told → HoldsBatches r.vectors deck.after.bytes
   pub lasts : deck.told → Only deck.after.bytes deck.after.may_leave
   pub says : deck.told → (c : Outcome) → deck.after.may_leave c → From deck.before.may_leave (HasSaid (said r.vectors)) c
 

@@ -15,7 +15,7 @@ use Rattle.vod_thin_code.specs.Held.{head_header, IsHeld}
 use Rattle.vod_thin_store.specs.Stored.{HasSaid, HoldsFirst, Adds, Records, EndsWith}
 use Rattle.vod_thin_store.proofs.Commits.{HasTextOf}
 use Rattle.vod_thin_store.proofs.Frames.{FrameLaws, Fits, header-of, frame-continues, head-fits, head-follows, head-first}
-use Rattle.vod_thin_store.proofs.Held.{held-head}
+use Rattle.vod_thin_store.proofs.Held.{held-head, payloads-none}
 use Rattle.vod_thin_store.proofs.Vectors.{lawful-front}
 
 -- the frame of the head
@@ -45,6 +45,7 @@ module _ (laws : FrameLaws) (source : List ℕ) (short : length source ≤ 2 ^ 2
       record {
         most = omega arith;
         sound = record { held = held; lawful = lawful-front d [] vs lawful; no_image = omega arith };
+        batches = (0, payloads-none d source c.file held);
         front = [];
         text = text ∙ sym (append-nil e.said);
         begins = ([], refl);
@@ -93,6 +94,7 @@ module _ (laws : FrameLaws) (source : List ℕ) (short : length source ≤ 2 ^ 2
               record {
                 most = adds.most;
                 sound = adds.sound;
+                batches = adds.batches;
                 front = adds.front;
                 text = adds.text ∙ ap (λ xs. xs ++ adds.front) before.text;
                 begins = adds.begins;

@@ -1,6 +1,7 @@
 -- Logs that hold a head and batches, and one record more.
-use Rattle.std.proofs.Common.{◌≡◌, ℕ, zero, suc, ◌≤◌, ◌+◌, arith, List, [], ◌∷◌, ◌++◌, length, refl, ap, ◌∙◌, subst, All}
+use Rattle.std.proofs.Common.{◌≡◌, ℕ, zero, suc, ◌≤◌, ◌+◌, ◌*◌, arith, List, [], ◌∷◌, ◌++◌, length, take, drop, map, refl, sym, ap, ◌∙◌, subst, All, length-append}
 use Rattle.std.specs.Prelude.{Bool, true, false, ◌==◌, nat_le, Option, None, Some, if◌then◌else◌}
+use Rattle.std.proofs.lemmas.List.{map-append, drop-drop}
 use Rattle.vod_thin_design.specs.declared.thin.Vector.{Vector}
 use Rattle.vod_thin_design.specs.Netlist.{Netlist}
 use Rattle.vod_log.specs.declared.header.Header.{Header}
@@ -8,6 +9,7 @@ use Rattle.vod_log.specs.Format.{Entry, Reading, record_at, gate_read, reading, 
 use Rattle.vod_log.specs.Tail.{frame_header, appended}
 use Rattle.vod_thin_code.specs.Bytes.{batch_bytes, head_bytes, record_bytes, IsInForm}
 use Rattle.vod_thin_code.specs.Held.{counts, head_header, batch_header, IsBatch, AreBatches, IsHeld}
+use Rattle.vod_thin_store.specs.Stored.{first_batches, payloads_of}
 use Rattle.vod_thin_store.proofs.Frames.{FrameLaws, Fits, header-of}
 
 gate-last : (h : Header) (at : ℕ) (rest : List ℕ) (t : Bool) (found : Option Header) (more : Header → Reading) → ((x : Header) → (more x).last ≡ None → ⊥) →
@@ -97,3 +99,43 @@ held-batch laws d source front batch bytes bytes' gate held fits some few forms 
       is_head = held.is_head;
       are_batches = batches-more d [] held.batches front e batch held.are_batches (record { header = refl; payload = refl; some = some; few = few; forms = forms });
     }
+
+-- the payloads behind the head are those of the batches
+payloads-held : (d : Netlist) (source : List ℕ) (vs : List Vector) (bytes : List ℕ) (held : IsHeld d source 4096 vs bytes) → payloads_of bytes ≡ map (λ (e : Entry). e.payload) held.batches
+payloads-held d source vs bytes held = ap (λ es. map (λ (e : Entry). e.payload) (drop 1 es)) held.entries
+
+-- a log that holds one batch more has its payload too
+pub payloads-more : FrameLaws → (d : Netlist) (source : List ℕ) (front batch : List Vector) (bytes bytes' : List ℕ) (gate : ℕ) → IsHeld d source 4096 front bytes →
+    Fits (batch_header (length front) batch (counts d (front ++ batch))) (batch_bytes batch) →
+    committed bytes' ≡ appended (committed bytes) gate (record_bytes (batch_header (length front) batch (counts d (front ++ batch))) (batch_bytes batch)) →
+    payloads_of bytes' ≡ payloads_of bytes ++ batch_bytes batch ∷ []
+payloads-more laws d source front batch bytes bytes' gate held fits same =
+    let h : Header = batch_header (length front) batch (counts d (front ++ batch)) in
+    let e : Entry = record { entry = record { at = gate; header = h }; payload = batch_bytes batch } in
+    let is : entry_of gate (frame_header (record_bytes h (batch_bytes batch))) (record_bytes h (batch_bytes batch)) ≡ e = entry-is laws gate h (batch_bytes batch) fits in
+    let entries : (committed bytes').entries ≡ (held.head ∷ held.batches) ++ e ∷ [] = ap (λ r. r.entries) same ∙ ap (λ x. (committed bytes).entries ++ x ∷ []) is ∙ ap (λ es. es ++ e ∷ []) held.entries in
+    ap (λ es. map (λ (e : Entry). e.payload) (drop 1 es)) entries ∙ map-append (λ (e : Entry). e.payload) held.batches (e ∷ [])
+    ∙ ap (λ ps. ps ++ batch_bytes batch ∷ []) (sym (payloads-held d source front bytes held))
+
+-- batches lead to no fewer vectors
+batches-lead : (d : Netlist) (before : List Vector) (es : List Entry) (vs : List Vector) → AreBatches d before es vs → length before ≤ length vs
+batches-lead d before [] vs are = omega (arith, ap length are)
+batches-lead d before (e ∷ es) vs are = omega (arith, batches-lead d (before ++ are.0) es vs are.2, length-append before are.0)
+
+none-led : (d : Netlist) (es : List Entry) → AreBatches d [] es [] → es ≡ []
+none-led d [] are = refl
+none-led d (e ∷ es) are = absurd (omega (arith, are.1.some, batches-lead d are.0 es [] are.2))
+
+-- a log of no vectors has no payload behind its head
+pub payloads-none : (d : Netlist) (source : List ℕ) (bytes : List ℕ) → IsHeld d source 4096 [] bytes → payloads_of bytes ≡ []
+payloads-none d source bytes held = payloads-held d source [] bytes held ∙ ap (λ es. map (λ (e : Entry). e.payload) es) (none-led d held.batches held.are_batches)
+
+-- one batch more of the vectors
+first-next : (n : ℕ) (vs : List Vector) → first_batches (suc n) vs ≡ first_batches n vs ++ take 64 (drop (64 * n) vs) ∷ []
+first-next zero vs = refl
+first-next (suc n) vs =
+    let more : drop (64 * n) (drop 64 vs) ≡ drop (64 * suc n) vs = drop-drop (64 * n) 64 vs ∙ ap (λ k. drop k vs) (omega arith) in
+    ap (λ bs. take 64 vs ∷ bs) (first-next n (drop 64 vs) ∙ ap (λ us. first_batches n (drop 64 vs) ++ take 64 us ∷ []) more)
+
+pub first-more : (n : ℕ) (vs : List Vector) → first_batches (n + 1) vs ≡ first_batches n vs ++ take 64 (drop (64 * n) vs) ∷ []
+first-more n vs = (let next : n + 1 ≡ suc n = omega arith in ap (λ m. first_batches m vs) next ∙ first-next n vs)

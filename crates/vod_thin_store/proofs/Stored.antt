@@ -1,5 +1,5 @@
 -- A deck that holds the first vectors, and one batch more.
-use Rattle.std.proofs.Common.{◌≡◌, ℕ, ◌<◌, ◌≤◌, ◌⊎◌, inl, inr, ◌+◌, ◌*◌, ◌^◌, arith, List, [], ◌++◌, length, take, drop, refl, sym, ap, ◌∙◌, subst, All, append_assoc, length-append, length-take, length-drop}
+use Rattle.std.proofs.Common.{◌≡◌, ℕ, ◌<◌, ◌≤◌, ◌⊎◌, inl, inr, ◌+◌, ◌*◌, ◌^◌, arith, List, [], ◌∷◌, ◌++◌, length, take, drop, map, refl, sym, ap, ◌∙◌, subst, All, append_assoc, length-append, length-take, length-drop}
 use Rattle.std.specs.Prelude.{true, min, Option, Some}
 use Rattle.std.specs.List.Sorted.{IsStrictlyIncreasing}
 use Rattle.std.proofs.lemmas.List.{append-nil, map-append, take-append-drop, take_at}
@@ -10,15 +10,15 @@ use Rattle.vod_thin_design.specs.Netlist.{Netlist}
 use Rattle.vod_thin_design.specs.Vectors.{IsVector, IsLawful, assigned, times, known_since, last_time}
 use Rattle.vod_log.specs.declared.header.Header.{Header}
 use Rattle.vod_log.specs.declared.header.Counts.{Counts}
-use Rattle.vod_log.specs.Format.{committed, follows}
+use Rattle.vod_log.specs.Format.{Entry, committed, follows}
 use Rattle.vod_log.specs.Tail.{Continues, IsSettled, appended, frame_header}
 use Rattle.vod_thin_code.specs.Bytes.{batch_bytes, record_bytes, IsInForm}
 use Rattle.vod_thin_code.specs.Held.{counts, batch_header, ack, said, IsHeld, IsSound}
-use Rattle.vod_thin_store.specs.Stored.{HasSaid, BeginsWith, Adds, Commits, known_by, EndsWith, HasStored}
+use Rattle.vod_thin_store.specs.Stored.{HasSaid, BeginsWith, first_batches, payloads_of, HoldsBatches, Adds, Commits, known_by, EndsWith, HasStored}
 use Rattle.vod_thin_store.proofs.Vectors.{Rises, lawful-rises, last-of, last-more, last-within, known-front, All-front, All-back, lawful-front, in-form}
 use Rattle.vod_thin_store.proofs.Said.{said-more}
 use Rattle.vod_thin_store.proofs.Frames.{FrameLaws, Fits, header-of, frame-continues, batch-follows, batch-fits}
-use Rattle.vod_thin_store.proofs.Held.{held-same, held-batch}
+use Rattle.vod_thin_store.proofs.Held.{held-same, held-batch, payloads-more, first-more}
 
 -- what is known of the vectors of a call
 pub record IsScript (d : Netlist) (vs : List Vector) (known : Option ℕ) : Type 0 where
@@ -141,13 +141,25 @@ module _ (d : Netlist) (vs : List Vector) (known : Option ℕ) (script : IsScrip
   })
 
   -- the batch is appended and acknowledged
-  module _ (laws : FrameLaws) (source : List ℕ) (short : length (batch_bytes batch) ≤ 787200) (n : ℕ) (batches : k ≡ min (64 * n) (length vs)) (lt : k < length vs) (entry old : View) (gate : ℕ) (last : Option Header)
+  module _ (laws : FrameLaws) (source : List ℕ) (short : length (batch_bytes batch) ≤ 787200) (next : batch ≡ take 64 (drop k vs)) (lt : k < length vs) (entry old : View) (gate : ℕ) (last : Option Header)
       (stored : HasStored d source vs k entry old gate last) where
     abbrev pub line : List ℕ
     line = ack (length (front ++ batch)) (last_time (front ++ batch))
 
+    whole-so-far : k ≡ 64 * stored.count
+    whole-so-far = omega (arith, stored.reached)
+
+    -- the payloads of the next batch too
+    batches-more : (bytes : List ℕ) → committed bytes ≡ appended (committed old.bytes) gate frame → payloads_of bytes ≡ map batch_bytes (first_batches (stored.count + 1) vs)
+    batches-more bytes same =
+        let here : batch ≡ take 64 (drop (64 * stored.count) vs) = next ∙ ap (λ n. take 64 (drop n vs)) whole-so-far in
+        payloads-more laws d source front batch old.bytes bytes gate stored.held (frame-fits short) same
+        ∙ ap (λ ps. ps ++ batch_bytes batch ∷ []) stored.batches
+        ∙ sym (map-append batch_bytes (first_batches stored.count vs) (batch ∷ []))
+        ∙ ap (λ bs. map batch_bytes bs) (ap (λ b. first_batches stored.count vs ++ b ∷ []) here ∙ sym (first-more stored.count vs))
+
     said-is : said (front ++ batch) ≡ said front ++ line
-    said-is = said-more n front batch (front-size ∙ omega arith) cut.some cut.few ∙ ap (λ m. said front ++ ack m (last_time (front ++ batch))) (sym (length-append front batch))
+    said-is = said-more stored.count front batch (front-size ∙ whole-so-far) cut.some cut.few ∙ ap (λ m. said front ++ ack m (last_time (front ++ batch))) (sym (length-append front batch))
 
     sound-front : (bytes : List ℕ) → committed bytes ≡ committed old.bytes → IsSound d source 4096 front bytes
     sound-front bytes same = record {
@@ -168,7 +180,7 @@ module _ (d : Netlist) (vs : List Vector) (known : Option ℕ) (script : IsScrip
 
     adds-front : (e o c : Outcome) → committed c.file ≡ committed old.bytes → o.said ≡ e.said ++ said front → c.said ≡ o.said → Adds d source vs e c
     adds-front e o c same before text =
-        (k, record { most = most; sound = sound-front c.file same; front = said front; text = text ∙ before; begins = ([], sym (append-nil (said front))) })
+        (k, record { most = most; sound = sound-front c.file same; batches = (stored.count, ap (λ r. map (λ (e : Entry). e.payload) (drop 1 r.entries)) same ∙ stored.batches); front = said front; text = text ∙ before; begins = ([], sym (append-nil (said front))) })
 
     adds-both : (e o c : Outcome) (more : List ℕ) → committed c.file ≡ appended (committed old.bytes) gate frame → o.said ≡ e.said ++ said front → c.said ≡ o.said ++ more → BeginsWith line more → Adds d source vs e c
     adds-both e o c more same before text begins = (
@@ -176,6 +188,7 @@ module _ (d : Netlist) (vs : List Vector) (known : Option ℕ) (script : IsScrip
       record {
         most = more-within;
         sound = sound-both c.file same;
+        batches = (stored.count + 1, batches-more c.file same);
         front = said front ++ more;
         text = text ∙ ap (λ xs. xs ++ more) before ∙ append_assoc e.said (said front) more;
         begins = (begins.0, ap (λ xs. said xs) take-more ∙ said-is ∙ ap (λ xs. said front ++ xs) begins.1 ∙ sym (append_assoc (said front) more begins.0));
@@ -210,6 +223,9 @@ module _ (d : Netlist) (vs : List Vector) (known : Option ℕ) (script : IsScrip
           ((c : Outcome) → new.may_leave c → From old.may_leave (HasSaid text) c) → HasStored d source vs (k + length batch) entry new gate' last'
       stored-more gate' last' same settled says = record {
         held = subst (λ xs. IsHeld d source 4096 xs new.bytes) (sym take-more) (both-held new.bytes (same ∙ ap (λ f. appended (committed old.bytes) gate f) bytes-are));
+        count = stored.count + 1;
+        reached = next-batches vs k stored.count batch stored.reached lt next;
+        batches = batches-more new.bytes (same ∙ ap (λ f. appended (committed old.bytes) gate f) bytes-are);
         settled = settled;
         outcomes = λ c now.
             let from : From old.may_leave (HasSaid text) c = says c now in

@@ -7,7 +7,7 @@ ghost use Rattle.vod_thin_design.specs.Vectors.{IsLawful, assigned, known_since,
 ghost use Rattle.vod_log.specs.Tail.{IsSettled};
 ghost use Rattle.vod_thin_code.specs.Held.{said, IsHeld, IsSound};
 ghost use Rattle.vod_thin_store.specs.declared.StoreFault.TheVariants.{Deck as DeckFault, NotEmpty};
-ghost use Rattle.vod_thin_store.specs.Stored.{HasSaid, Records, Adds, EndsWith, known_by};
+ghost use Rattle.vod_thin_store.specs.Stored.{HasSaid, HoldsBatches, Records, Adds, EndsWith, known_by};
 
 use crate::StoreFault;
 use crate::append::{append_head, commit};
@@ -40,6 +40,7 @@ pub fn record<L: Deck>(
     requires few { length vectors.now < 4096 }
     requires known { known ≡ known_since design.now vectors.now }
     ensures held { OnOk result (L.tells → IsSound design.now source.now 4096 vectors.now (L.view deck.new).bytes) }
+    ensures batches { OnOk result (L.tells → HoldsBatches vectors.now (L.view deck.new).bytes) }
     ensures lasts { OnOk result (L.tells → Only (L.view deck.new).bytes (L.view deck.new).may_leave) }
     ensures said { OnOk result (L.tells → (c : Outcome) → (L.view deck.new).may_leave c → From (L.view deck.old).may_leave (HasSaid (said vectors.now)) c) }
     ensures crashes { L.tells → Leaves (L.view deck.old) (L.view deck.new) (From (L.view deck.old).may_leave (Records design.now source.now vectors.now)) }
@@ -126,6 +127,7 @@ fn append_batches<L: Deck>(
     requires few { length vectors.now < 4096 }
     requires known { known ≡ known_since design.now vectors.now }
     ensures held { OnOk result (L.tells → IsHeld design.now source.now 4096 vectors.now (L.view deck.new).bytes) }
+    ensures batches { OnOk result (L.tells → HoldsBatches vectors.now (L.view deck.new).bytes) }
     ensures lasts { OnOk result (L.tells → Only (L.view deck.new).bytes (L.view deck.new).may_leave) }
     ensures said { OnOk result (L.tells → (c : Outcome) → (L.view deck.new).may_leave c → From (L.view deck.old).may_leave (HasSaid (said vectors.now)) c) }
     ensures crashes { L.tells → Leaves (L.view deck.old) (L.view deck.new) (From (L.view deck.old).may_leave (Adds design.now source.now vectors.now)) }

@@ -2,7 +2,7 @@ use Rattle.std.proofs.Common.{◌≡◌, ◌≤◌, ℕ, List, [], ◌∷◌, sy
 use Rattle.vod_deck.specs.Outcomes.{Outcome, View, From, Only, Leaves}
 use Rattle.vod_thin_design.specs.Vectors.{IsLawful}
 use Rattle.vod_thin_code.specs.Held.{IsSound, said}
-use Rattle.vod_thin_store.specs.Stored.{HasSaid, Records}
+use Rattle.vod_thin_store.specs.Stored.{HasSaid, HoldsBatches, Records}
 use Rattle.vod_program.specs.Answer.{Inputs, Device, IsRecorded}
 use Rattle.vod_program.proofs.AnswerLaws.{asked, request, same_request}
 use Rattle.vod_program.proofs.RecordLaws.{IsCreated, begun_with, record_left, said_behind}
@@ -33,6 +33,7 @@ returns-in-Ok-clause-answers g c =
       few = c.in_ok-past.ensures.few;
       fresh = λ told. (tail.fresh told).0;
       sound = λ told. same_request (λ r. IsSound r.design r.source 4096 r.vectors new.bytes) _ source d _ vs c.as_slice-source.ensures.value c.vectors-vectors.ensures.items (done.held told);
+      batches = λ told. subst (λ us. HoldsBatches us new.bytes) c.vectors-vectors.ensures.items (done.batches told);
       lasts = done.lasts;
       says = λ told o may. said_behind old mid (said vs) o (λ m left. (begins told m left).1) (subst (λ us. From mid.may_leave (HasSaid (said us)) o) c.vectors-vectors.ensures.items (done.said told o may));
     })

@@ -1,13 +1,33 @@
 -- One batch more is appended and acknowledged.
 use Rattle.std.proofs.Common.{◌≡◌, ◌∙◌, ◌≤◌, ◌+◌, ◌++◌, arith, length, take, sym, ap, subst}
 use Rattle.std.specs.Prelude.{Some}
+use Rattle.std.proofs.lemmas.List.{append-nil}
+use Rattle.vod_deck.specs.Outcomes.{From}
+use Rattle.vod_deck.proofs.Leaves.{leaves-none}
 use Rattle.vod_log.specs.Tail.{Continues, frame_header}
 use Rattle.vod_thin_code.specs.Bytes.{batch_bytes}
 use Rattle.vod_thin_code.specs.Held.{ack, counts}
-use Rattle.vod_thin_store.specs.Stored.{EndsWith}
+use Rattle.vod_thin_store.specs.Stored.{EndsWith, Adds}
+use Rattle.vod_thin_store.proofs.Held.{payloads-none}
 use Rattle.vod_thin_store.proofs.Frames.{FrameLaws}
-use Rattle.vod_thin_store.proofs.Stored.{IsScript, IsCut, made-cut, next-batches, batch-forms, counts-are, written, frame, frame-is, goes-on, ends-more, crashes-more, stored-more}
+use Rattle.vod_thin_store.proofs.Stored.{IsScript, IsCut, made-cut, batch-forms, counts-are, written, frame, frame-is, goes-on, ends-more, crashes-more, stored-more}
 use Rattle.vod_thin_store.proofs.store.append_batches.Goals as goal
+
+pub loop-held-init : goal.loop-held-init
+loop-held-init g c = record {
+  whole = c.requires.fresh;
+  ends = c.requires.ends;
+  stored = λ tells. record {
+    held = c.requires.begun tells;
+    count = 0;
+    reached = omega arith;
+    batches = payloads-none c.args.design.now c.args.source.now (g.L.Deck.view c.args.deck.now).bytes (c.requires.begun tells);
+    settled = c.requires.settled tells;
+    outcomes = λ o now. (o, now, sym (append-nil o.said));
+    crashes = leaves-none (g.L.Deck.view c.args.deck.now) (From (g.L.Deck.view c.args.deck.now).may_leave (Adds c.args.design.now c.args.source.now c.args.vectors.now));
+  };
+  later = omega arith;
+}
 
 pub batch-requires : goal.batch-requires
 batch-requires g c =
@@ -47,7 +67,7 @@ returns-in_err-commit-clause-crashes g c = λ tells.
     let short : length (batch_bytes batch) ≤ 787200 = omega (arith, c.batches_are_short.ensures d batch (batch-forms d vs c.args.known script k most batch cut) cut.few) in
     let after : written k batch c.last_time-last.result c.known_by.result ≡ counts d (take k vs ++ batch) = counts-are d vs c.args.known script k most batch cut _ _ c.last_time-last.ensures c.known_by.ensures in
     let bytes : c.as_slice.result.now ≡ frame d vs c.args.known script k most batch cut = frame-is d vs c.args.known script k most batch cut _ _ after (c.as_slice.ensures ∙ c.in_ok-batch.ensures) in
-    crashes-more d vs c.args.known script k most batch cut laws c.args.source.now short c.loop-held.invariant.batches.0 c.loop-held.invariant.batches.1 (omega arith) _ _ _ _ (c.loop-held.invariant.stored tells)
+    crashes-more d vs c.args.known script k most batch cut laws c.args.source.now short c.next_batch-batch.ensures (omega arith) _ _ _ _ (c.loop-held.invariant.stored tells)
     _ _ bytes (ap (λ a. ack a.vectors a.last) after) _ (c.commit.ensures.crashes tells)
 
 pub loop-held-smaller : goal.loop-held-smaller
@@ -70,11 +90,10 @@ loop-held-preserved g c =
     let bytes : c.as_slice.result.now ≡ frame d vs c.args.known script k most batch cut = frame-is d vs c.args.known script k most batch cut _ _ after (c.as_slice.ensures ∙ c.in_ok-batch.ensures) in
     let last : c.commit.new.tail.last ≡ Some (frame_header (frame d vs c.args.known script k most batch cut)) = ap (λ t. t.last) c.in_ok-commit.ensures.tail ∙ ap (λ f. Some (frame_header f)) bytes in
     record {
-      batches = (c.loop-held.invariant.batches.0 + 1, next-batches vs k c.loop-held.invariant.batches.0 batch c.loop-held.invariant.batches.1 (omega arith) c.next_batch-batch.ensures);
       whole = ap (λ t. t.broken) c.in_ok-commit.ensures.tail;
       ends = subst (λ o. EndsWith d (take (k + length batch) vs) o) (sym last) (ends-more d vs c.args.known script k most batch cut laws short);
       stored = λ tells.
-          stored-more d vs c.args.known script k most batch cut laws c.args.source.now short c.loop-held.invariant.batches.0 c.loop-held.invariant.batches.1 (omega arith) _ _ _ _ (c.loop-held.invariant.stored tells)
+          stored-more d vs c.args.known script k most batch cut laws c.args.source.now short c.next_batch-batch.ensures (omega arith) _ _ _ _ (c.loop-held.invariant.stored tells)
           _ _ bytes (ap (λ a. ack a.vectors a.last) after) _ (c.commit.ensures.crashes tells) _ _
           (c.in_ok-commit.ensures.held tells) (c.in_ok-commit.ensures.settled tells) (c.in_ok-commit.ensures.said tells);
       later = omega (arith, c.loop-held.invariant.later, c.commit.ensures.caused.later);
