@@ -1,4 +1,4 @@
--- A tree at another size and sign: the parts that have the size and sign of the whole have the new ones, and the others are as they were.
+-- A tree at another size and sign: the parts that have the size and sign of the whole have the new ones, and the others are as they were. Places stay.
 use Rattle.std.specs.Prelude.{◌≡◌, ℕ, Bool}
 use Rattle.vod_design.specs.declared.sized.BinaryOp.{BinaryOp}
 use Rattle.vod_design.specs.declared.sized.ShiftOp.{ShiftOp}
@@ -9,7 +9,7 @@ use Rattle.vod_design.specs.declared.sized.SizedKind.TheVariants as kind
 
 mutual
   pub data Fits : ℕ → Bool → SizedExpr → SizedExpr → Type 0 where
-    fits : (w : ℕ) (s : Bool) (e r : SizedExpr) → r.width ≡ w → r.signed ≡ s → FitsKind w s e.kind r.kind → Fits w s e r
+    fits : (w : ℕ) (s : Bool) (e r : SizedExpr) → r.place ≡ e.place → r.width ≡ w → r.signed ≡ s → FitsKind w s e.kind r.kind → Fits w s e r
 
   pub data FitsKind : ℕ → Bool → SizedKind → SizedKind → Type 0 where
     unary : (w : ℕ) (s : Bool) (k l : SizedKind) (op : UnaryOp) (a b : SizedExpr) → k ≡ kind.Unary op a → l ≡ kind.Unary op b → Fits w s a b → FitsKind w s k l

@@ -22,7 +22,7 @@ use Rattle.vod_operand.specs.declared.tree.Pair.{Pair}
 use Rattle.vod_operand.specs.declared.tree.Single.{Single}
 use Rattle.vod_operand.specs.declared.operators.Row.{Row}
 use Rattle.vod_operand.specs.Fits.{Fits}
-use Rattle.vod_operand.specs.Operands.{Looked, node, sooner, first, is_sound, natural}
+use Rattle.vod_operand.specs.Operands.{Looked, node, standing, sooner, first}
 use Rattle.vod_operand.specs.declared.tree.Looked as code
 use Rattle.vod_operand.specs.declared.tree.Pair.TheVariants as pairs
 use Rattle.vod_operand.specs.declared.tree.Single.TheVariants as singles
@@ -42,8 +42,13 @@ beside_of (Err g) (Err f) = Err (sooner g f)
 abbrev pub looked_of : ℕ → ℕ → Bool → Bool → Result SizedExpr Fault → code.Looked
 looked_of place width signed constant tree = record { place = place; width = width; signed = signed; constant = constant; tree = tree }
 
+-- a tree at its place
+abbrev pub standing_tree : ℕ → Result SizedExpr Fault → Result SizedExpr Fault
+standing_tree place (Ok t) = Ok (standing place t)
+standing_tree place (Err f) = Err f
+
 abbrev pub at_place_of : ℕ → code.Looked → code.Looked
-at_place_of place x = looked_of place x.width x.signed x.constant (beside_of x.tree (if nat_lt WIDTH x.width then Err (Width place) else Ok tt))
+at_place_of place x = looked_of place x.width x.signed x.constant (beside_of (standing_tree place x.tree) (if nat_lt WIDTH x.width then Err (Width place) else Ok tt))
 
 abbrev pub pair_kind_of : Pair → SizedExpr → SizedExpr → SizedKind
 pair_kind_of (pairs.Binary op) a b = kind.Binary op a b

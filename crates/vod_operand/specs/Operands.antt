@@ -22,9 +22,13 @@ pub record Looked : Type 0 where
   pub faults : List Fault
   pub sized : ℕ → Bool → SizedExpr
 
--- an expression of a kind at a size and sign
+-- an expression of a kind at a size and sign, with no place as yet
 abbrev pub node : ℕ → Bool → SizedKind → SizedExpr
-node width signed k = record { width = width; signed = signed; kind = k }
+node width signed k = record { place = 0; width = width; signed = signed; kind = k }
+
+-- an expression whose first token stands at a place
+abbrev pub standing : ℕ → SizedExpr → SizedExpr
+standing place e = record { place = place; width = e.width; signed = e.signed; kind = e.kind }
 
 -- an expression at its own size and sign, as where it is self-determined (5.4.1)
 abbrev pub own : Looked → SizedExpr
@@ -74,9 +78,13 @@ unless test x = if may_be test x then [] else Rule x.place ∷ []
 abbrev pub look_number : Number → Looked
 look_number n = looked (bounded n.size) n.signed true [] (λ w s. node w s (kind.Number (at_size n.size false (bits_of WIDTH n.value))))
 
--- an expression wider than WIDTH is at fault at its first token
+-- an expression has the place of its first token, and so has the node that it becomes. One wider than WIDTH is at fault there
 abbrev pub at_place : ℕ → Looked → Looked
-at_place place x = record x { place = place; faults = x.faults ++ (if nat_lt WIDTH x.width then Width place ∷ [] else []) }
+at_place place x = record x {
+  place = place;
+  faults = x.faults ++ (if nat_lt WIDTH x.width then Width place ∷ [] else []);
+  sized = λ w s. standing place (x.sized w s);
+}
 
 -- where a fault stands among others: by its place, and at one place that a rule fails stands before a width. That something is open has
 -- no place

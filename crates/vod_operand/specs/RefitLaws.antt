@@ -8,6 +8,7 @@ use Rattle.vod_tree.specs.declared.expr.UnaryOp.TheVariants as sign
 use Rattle.vod_design.specs.declared.sized.ShiftOp.{ShiftOp}
 use Rattle.vod_design.specs.declared.sized.SizedExpr.{SizedExpr}
 use Rattle.vod_design.specs.declared.sized.SizedKind.{SizedKind}
+use Rattle.vod_design.specs.declared.sized.Memory.{Memory}
 use Rattle.vod_design.specs.declared.sized.Named.{Named}
 use Rattle.vod_design.specs.declared.sized.ComparisonOp.{ComparisonOp}
 use Rattle.vod_design.specs.declared.sized.LogicalOp.{LogicalOp}
@@ -22,7 +23,7 @@ use Rattle.vod_design.specs.declared.sized.BinaryOp.TheVariants as binary_op
 use Rattle.vod_design.specs.declared.sized.ShiftOp.TheVariants as shift_op
 use Rattle.vod_design.specs.declared.sized.UnaryOp.TheVariants as unary_op
 use Rattle.vod_operand.specs.Fits.{Fits, FitsKind, fits, unary, binary, shift, conditional, other}
-use Rattle.vod_operand.specs.Operands.{Looked, node, own}
+use Rattle.vod_operand.specs.Operands.{Looked, node, standing, own, at_place}
 use Rattle.vod_operand.specs.Operators.{like_operand, like_both, like_left, look_conditional, look_unary, look_binary}
 use Rattle.vod_operand.specs.Found.{Refits}
 
@@ -43,12 +44,12 @@ kind_stays w s k l f (shift _ _ _ _ op a b m p q h) = absurd (f.not_shift op a m
 kind_stays w s k l f (conditional _ _ _ _ t a b c d p q h i) = absurd (f.not_conditional t a b p)
 kind_stays w s k l f (other _ _ _ n o p q) = refl
 
--- a tree by its size, its sign and its kind
-by_parts : (r : SizedExpr) (w : ℕ) (s : Bool) (k : SizedKind) → r.width ≡ w → r.signed ≡ s → r.kind ≡ k → r ≡ node w s k
-by_parts r w s k p q h = ap (λ v. node v r.signed r.kind) p ∙ ap (λ v. node w v r.kind) q ∙ ap (node w s) h
+-- a tree by its place, its size, its sign and its kind
+by_parts : (r : SizedExpr) (w : ℕ) (s : Bool) (k : SizedKind) → r.place ≡ 0 → r.width ≡ w → r.signed ≡ s → r.kind ≡ k → r ≡ node w s k
+by_parts r w s k o p q h = ap (λ z. standing z r) o ∙ ap (λ v. node v r.signed r.kind) p ∙ ap (λ v. node w v r.kind) q ∙ ap (node w s) h
 
 pub fixed : (w : ℕ) (s : Bool) (v : ℕ) (t : Bool) (k : SizedKind) (r : SizedExpr) → IsFixed k → Fits w s (node v t k) r → r ≡ node w s k
-fixed w s v t k r f (fits _ _ _ _ p q h) = by_parts r w s k p q (kind_stays w s k r.kind f h)
+fixed w s v t k r f (fits _ _ _ _ o p q h) = by_parts r w s k o p q (kind_stays w s k r.kind f h)
 
 -- the layer that a kind was made of
 opened : (k : SizedKind) (x : Layer) → k ≡ roll-SizedKind x → out-SizedKind k ≡ x
@@ -141,7 +142,16 @@ fits_conditional w s t a b u v l f g (shift _ _ _ _ o c d m p q h) = absurd (cc)
 fits_conditional w s t a b u v l f g (other _ _ _ n o p q) = absurd (q t a b refl)
 
 refits_by : (w : ℕ) (s : Bool) (v : ℕ) (t : Bool) (k m : SizedKind) (r : SizedExpr) → ((l : SizedKind) → FitsKind w s k l → l ≡ m) → Fits w s (node v t k) r → r ≡ node w s m
-refits_by w s v t k m r f (fits _ _ _ _ p q h) = by_parts r w s m p q (f r.kind h)
+refits_by w s v t k m r f (fits _ _ _ _ o p q h) = by_parts r w s m o p q (f r.kind h)
+
+-- an expression at its place
+placed_by : (place w : ℕ) (s : Bool) (e u r : SizedExpr) → ((x : SizedExpr) → Fits w s e x → x ≡ u) → Fits w s (standing place e) r → r ≡ standing place u
+placed_by place w s e u r f (fits _ _ _ _ o p q h) =
+    let back : Fits w s e (standing e.place r) = fits w s e (standing e.place r) refl p q h in
+    ap (λ z. standing z r) o ∙ ap (standing place) (f (standing e.place r) back)
+
+pub placed_refits : (place : ℕ) (x : Looked) → Refits x → Refits (at_place place x)
+placed_refits place x f w v s t r h = placed_by place w s (x.sized v t) (x.sized w s) r (f w v s t) h
 
 -- what each row of the table of sizes gives
 pub like_refits : (op : sized_unary.UnaryOp) (a : Looked) → Refits a → Refits (like_operand (kind.Unary op) a)
@@ -178,10 +188,10 @@ fixed_Select n x y = fixed_by (kind.Select n x y) (λ o c h. absurd (cc)) (λ o 
 pub fixed_Index : (n : Named) (x : ℕ) (e : SizedExpr) → IsFixed (kind.Index n x e)
 fixed_Index n x e = fixed_by (kind.Index n x e) (λ o c h. absurd (cc)) (λ o c d h. absurd (cc)) (λ o c d h. absurd (cc)) (λ o c d h. absurd (cc))
 
-pub fixed_Word : (m p : ℕ) → IsFixed (kind.Word m p)
+pub fixed_Word : (m : Memory) (p : ℕ) → IsFixed (kind.Word m p)
 fixed_Word m p = fixed_by (kind.Word m p) (λ o c h. absurd (cc)) (λ o c d h. absurd (cc)) (λ o c d h. absurd (cc)) (λ o c d h. absurd (cc))
 
-pub fixed_WordIndex : (m x : ℕ) (e : SizedExpr) → IsFixed (kind.WordIndex m x e)
+pub fixed_WordIndex : (m : Memory) (x : ℕ) (e : SizedExpr) → IsFixed (kind.WordIndex m x e)
 fixed_WordIndex m x e = fixed_by (kind.WordIndex m x e) (λ o c h. absurd (cc)) (λ o c d h. absurd (cc)) (λ o c d h. absurd (cc)) (λ o c d h. absurd (cc))
 
 pub fixed_Comparison : (op : ComparisonOp) (x y : SizedExpr) → IsFixed (kind.Comparison op x y)

@@ -19,7 +19,11 @@ pub enum Fault {
 pub fn sooner(a: Fault, b: Fault) -> Fault
     ensures { result ≡ sooner a b }
 {
-    if stands_before(order(b), order(a)) { b } else { a }
+    if stands_before(order(b), order(a)) {
+        b
+    } else {
+        a
+    }
 }
 
 // Where a fault stands among others: by its place, and at one place that a rule fails stands first.

@@ -16,8 +16,10 @@ pub(crate) fn fit_tree(
 ) -> Result<SizedExpr, AllocError>
     ensures { IfOk result (λ r. Fits width signed e r) }
 {
+    let place = e.place;
     let kind = fit_kind(alloc, e.kind, width, signed)?;
     Ok(SizedExpr {
+        place,
         width,
         signed,
         kind,

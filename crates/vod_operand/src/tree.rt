@@ -3,7 +3,7 @@ ghost use Rattle.std.specs.Prelude.{◌≡◌, ◌&&◌, min, false, IfOk};
 ghost use Rattle.vod_operand.specs.Operands.{Looked as Found, node, own};
 ghost use Rattle.vod_operand.specs.Operators.{larger};
 ghost use Rattle.vod_design.specs.declared.sized.SizedKind.TheVariants as kind;
-ghost use Rattle.vod_operand.specs.Found.{both_of, beside_of, looked_of, at_place_of, pair_kind_of, pair_tree_of, single_kind_of, single_tree_of, triple_tree_of, FitsTree, fault_of, tree_unless, SeesAs, Sees, Refits, IsNarrow};
+ghost use Rattle.vod_operand.specs.Found.{both_of, beside_of, standing_tree, looked_of, at_place_of, pair_kind_of, pair_tree_of, single_kind_of, single_tree_of, triple_tree_of, FitsTree, fault_of, tree_unless, SeesAs, Sees, Refits, IsNarrow};
 
 use crate::fault::{Fault, sooner};
 use crate::refit::fit_tree;
@@ -46,11 +46,12 @@ pub(crate) enum Single {
     Reduction(ReductionOp),
 }
 
-/// An expression of a kind, whose size isn't known yet.
+/// An expression of a kind, whose size and place aren't known yet.
 pub fn unsized_node(kind: SizedKind) -> SizedExpr
     ensures { result ≡ node 0 false kind }
 {
     SizedExpr {
+        place: 0,
         width: 0,
         signed: false,
         kind,
@@ -111,6 +112,21 @@ fn beside(tree: Result<SizedExpr, Fault>, other: Result<(), Fault>) -> Result<Si
     }
 }
 
+// A tree at its place.
+fn standing_tree(place: u32, tree: Result<SizedExpr, Fault>) -> Result<SizedExpr, Fault>
+    ensures { result ≡ standing_tree place tree }
+{
+    match tree {
+        Ok(e) => Ok(SizedExpr {
+            place,
+            width: e.width,
+            signed: e.signed,
+            kind: e.kind,
+        }),
+        Err(f) => Err(f),
+    }
+}
+
 /// An expression at its place. One that is too wide is at fault there.
 pub fn at_place(place: u32, x: Looked) -> Looked
     ensures { result ≡ at_place_of place x }
@@ -125,7 +141,7 @@ pub fn at_place(place: u32, x: Looked) -> Looked
         width: x.width,
         signed: x.signed,
         constant: x.constant,
-        tree: beside(x.tree, wide),
+        tree: beside(standing_tree(place, x.tree), wide),
     }
 }
 

@@ -14,8 +14,8 @@ use Rattle.vod_design.specs.Values.{bounded, at_size}
 use Rattle.vod_design.specs.declared.sized.SizedKind.TheVariants as kind
 use Rattle.vod_operand.specs.declared.fault.Fault.{Fault}
 use Rattle.vod_operand.specs.declared.fault.Fault.TheVariants.{Width}
-use Rattle.vod_operand.specs.Operands.{Looked, node, first, at_place, look_number, join}
-use Rattle.vod_operand.specs.Found.{TreeIs, Sees, Saw, looked_of, beside_of, at_place_of}
+use Rattle.vod_operand.specs.Operands.{Looked, node, standing, first, at_place, look_number, join}
+use Rattle.vod_operand.specs.Found.{TreeIs, Sees, Saw, looked_of, beside_of, standing_tree, at_place_of}
 use Rattle.vod_operand.specs.FaultLaws.{first_append, first_nothing}
 use Rattle.vod_operand.specs.FoundLaws.{sees_of}
 use Rattle.vod_operand.specs.declared.tree.Looked as code
@@ -50,10 +50,10 @@ arm decls e x c is h = let P : Looked → Type 0 = λ z. SeesKind c z in subst P
 
 -- an expression at its place
 beside_is : (t u : Bool) (place w : ℕ) (tree : Result SizedExpr Fault) (x : Looked) → t ≡ nat_lt WIDTH w → u ≡ nat_lt WIDTH x.width → w ≡ min x.width 65 → TreeNear tree x
-    → TreeIs (beside_of tree (cond t (Err (Width place)) (Ok tt))) (first (x.faults ++ cond u (Width place ∷ []) [])) (x.sized 0 false)
+    → TreeIs (beside_of (standing_tree place tree) (cond t (Err (Width place)) (Ok tt))) (first (x.faults ++ cond u (Width place ∷ []) [])) (standing place (x.sized 0 false))
 beside_is true true place w (Ok t) x p q e h = first_append x.faults (Width place ∷ []) ∙ ap (λ z. join z (Some (Width place))) h.0
 beside_is true true place w (Err f) x p q e h = first_append x.faults (Width place ∷ []) ∙ ap (λ z. join z (Some (Width place))) h
-beside_is false false place w (Ok t) x p q e h = let small : x.width ≤ WIDTH = grind (arith, nat_tests) in (first_nothing x.faults ∙ h.0, h.1 small)
+beside_is false false place w (Ok t) x p q e h = let small : x.width ≤ WIDTH = grind (arith, nat_tests) in (first_nothing x.faults ∙ h.0, ap (standing place) (h.1 small))
 beside_is false false place w (Err f) x p q e h = first_nothing x.faults ∙ h
 beside_is true false place w tree x p q e h = absurd (grind (arith, nat_tests))
 beside_is false true place w tree x p q e h = absurd (grind (arith, nat_tests))

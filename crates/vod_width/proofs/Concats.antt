@@ -12,7 +12,7 @@ use Rattle.vod_design.specs.declared.sized.SizedExpr.{SizedExpr}
 use Rattle.vod_design.specs.declared.statement.Size.{Size}
 use Rattle.vod_design.specs.declared.sized.SizedKind.TheVariants as kind
 use Rattle.vod_operand.specs.declared.fault.Fault.{Fault}
-use Rattle.vod_operand.specs.Operands.{Looked, node, own, first, number_where, unless, join}
+use Rattle.vod_operand.specs.Operands.{Looked, node, standing, own, first, number_where, unless, join}
 use Rattle.vod_operand.specs.Found.{TreeIs, SeesAs, Sees, Saw, looked_of}
 use Rattle.vod_operand.specs.FaultLaws.{first_append}
 use Rattle.vod_operand.specs.FoundLaws.{tree_moved, passed, sees_of}
@@ -109,9 +109,9 @@ part_of : (n t : ℕ) → nat_lt 0 n ≡ true → n * t ≤ 64 → t ≤ 64
 part_of zero t p h = absurd (cc)
 part_of (suc n) t p h = omega (arith, h, suc-mul n t)
 
-replicate_near : (fault : Option Fault) (ts : Result (List SizedExpr) Fault) (x : Looked) (ys : List Looked) (count width : ℕ) → fault ≡ first (x.faults ++ unless (nat_lt 0) x) → TreesAre ts (first (faults_of ys)) (map own ys)
-    → count ≡ min (or_zero (number_where (nat_lt 0) x)) WIDTH → width ≡ min (total ys) 65 → TreeNear (replicate_tree_of fault count width (concat_tree_of ts)) (look_replicate x ys)
-replicate_near None (Ok ts) x ys count width f h n w =
+replicate_near : (place : ℕ) (fault : Option Fault) (ts : Result (List SizedExpr) Fault) (x : Looked) (ys : List Looked) (count width : ℕ) → fault ≡ first (x.faults ++ unless (nat_lt 0) x) → TreesAre ts (first (faults_of ys)) (map own ys)
+    → count ≡ min (or_zero (number_where (nat_lt 0) x)) WIDTH → width ≡ min (total ys) 65 → TreeNear (replicate_tree_of fault count place width (concat_tree_of ts)) (look_replicate place x ys)
+replicate_near place None (Ok ts) x ys count width f h n w =
     let own_faults = x.faults ++ unless (nat_lt 0) x in
     let N = number_where (nat_lt 0) x in
     let p = passed (nat_lt 0) x (sym f) in
@@ -122,26 +122,26 @@ replicate_near None (Ok ts) x ys count width f h n w =
           let few : p.number * total ys ≤ 64 = let P : ℕ → Type 0 = λ z. z * total ys ≤ 64 in subst P held narrow in
           let small : total ys ≤ 64 = part_of p.number (total ys) p.holds few in
           let exact : width ≡ total ys = omega (arith, w, small) in
-          ap (λ k. node 0 false (kind.Replicate k (node width false (kind.Concat ts)))) n ∙ ap (λ k. node 0 false (kind.Replicate (min (or_zero N) WIDTH) (node k false (kind.Concat ts)))) exact
-          ∙ ap (λ us. node 0 false (kind.Replicate (min (or_zero N) WIDTH) (node (total ys) false (kind.Concat us)))) h.1,
+          ap (λ k. node 0 false (kind.Replicate k (standing place (node width false (kind.Concat ts))))) n ∙ ap (λ k. node 0 false (kind.Replicate (min (or_zero N) WIDTH) (standing place (node k false (kind.Concat ts))))) exact
+          ∙ ap (λ us. node 0 false (kind.Replicate (min (or_zero N) WIDTH) (standing place (node (total ys) false (kind.Concat us))))) h.1,
     )
-replicate_near None (Err g) x ys count width f h n w = first_append (x.faults ++ unless (nat_lt 0) x) (faults_of ys) ∙ ap (λ z. join z (first (faults_of ys))) (sym f) ∙ h
-replicate_near (Some e) (Ok ts) x ys count width f h n w = first_append (x.faults ++ unless (nat_lt 0) x) (faults_of ys) ∙ ap (λ z. join z (first (faults_of ys))) (sym f) ∙ ap (join (Some e)) h.0
-replicate_near (Some e) (Err g) x ys count width f h n w = first_append (x.faults ++ unless (nat_lt 0) x) (faults_of ys) ∙ ap (λ z. join z (first (faults_of ys))) (sym f) ∙ ap (join (Some e)) h
+replicate_near place None (Err g) x ys count width f h n w = first_append (x.faults ++ unless (nat_lt 0) x) (faults_of ys) ∙ ap (λ z. join z (first (faults_of ys))) (sym f) ∙ h
+replicate_near place (Some e) (Ok ts) x ys count width f h n w = first_append (x.faults ++ unless (nat_lt 0) x) (faults_of ys) ∙ ap (λ z. join z (first (faults_of ys))) (sym f) ∙ ap (join (Some e)) h.0
+replicate_near place (Some e) (Err g) x ys count width f h n w = first_append (x.faults ++ unless (nat_lt 0) x) (faults_of ys) ∙ ap (λ z. join z (first (faults_of ys))) (sym f) ∙ ap (join (Some e)) h
 
-pub replicate_sees : (c : code.Looked) (p : parts.Parts) (x : Looked) (ys : List Looked) (counted : limit.Numbered) (n count width w : ℕ) (k : Bool) (concat t : Result SizedExpr Fault)
+pub replicate_sees : (c : code.Looked) (place : ℕ) (p : parts.Parts) (x : Looked) (ys : List Looked) (counted : limit.Numbered) (n count width w : ℕ) (k : Bool) (concat t : Result SizedExpr Fault)
     → SeesParts p ys → IsNumbered (nat_lt 0) counted x → n ≡ or_zero counted.number → width ≡ cond p.sized p.width 0 → k ≡ (counted.constant && p.constant) → concat ≡ concat_tree_of p.trees
-    → count ≡ min n 64 → t ≡ replicate_tree_of counted.fault count width concat → w ≡ min (n * width) 65 → c ≡ looked_of 0 w false k t → SeesKind c (look_replicate x ys)
-replicate_sees c p x ys counted n count width w k concat t s m z v b q l r j e =
+    → count ≡ min n 64 → t ≡ replicate_tree_of counted.fault count place width concat → w ≡ min (n * width) 65 → c ≡ looked_of 0 w false k t → SeesKind c (look_replicate place x ys)
+replicate_sees c place p x ys counted n count width w k concat t s m z v b q l r j e =
     let N : n ≡ or_zero (number_where (nat_lt 0) x) = z ∙ ap or_zero m.number in
     let W : width ≡ min (total ys) 65 = v ∙ total_is p ys s in
-    let P : code.Looked → Type 0 = λ d. SeesKind d (look_replicate x ys) in
-    let Q : Result SizedExpr Fault → Type 0 = λ u. TreeNear u (look_replicate x ys) in
+    let P : code.Looked → Type 0 = λ d. SeesKind d (look_replicate place x ys) in
+    let Q : Result SizedExpr Fault → Type 0 = λ u. TreeNear u (look_replicate place x ys) in
     subst P (sym e) (record {
       width = j ∙ ap (λ i. min (n * i) 65) W ∙ times_total n (total ys) ∙ ap (λ i. min (i * total ys) 65) N;
       signed = refl;
       constant = b ∙ ap (λ i. i && p.constant) m.constant ∙ ap (λ i. x.constant && i) s.constant;
-      tree = subst Q (sym (r ∙ ap (replicate_tree_of counted.fault count width) q)) (replicate_near counted.fault p.trees x ys count width m.fault s.trees (l ∙ ap (λ i. min i 64) N) W);
+      tree = subst Q (sym (r ∙ ap (replicate_tree_of counted.fault count place width) q)) (replicate_near place counted.fault p.trees x ys count width m.fault s.trees (l ∙ ap (λ i. min i 64) N) W);
     })
 
 -- calls

@@ -6,3 +6,4 @@ pub mod Ranges
 pub mod Concats
 pub mod Arms
 pub mod Refuse
+pub mod LeftSides

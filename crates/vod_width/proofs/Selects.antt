@@ -12,7 +12,7 @@ use Rattle.vod_operand.specs.declared.tree.Looked as code
 use Rattle.vod_width.specs.View.{kept, is_found, bit_index_tree, word_index_tree}
 use Rattle.vod_width.specs.declared.decls.Vector.{Vector}
 use Rattle.vod_width.specs.declared.decls.WordArray.{WordArray}
-use Rattle.vod_width.specs.Sizes.{or_zero, in_vector, in_ram, look_index}
+use Rattle.vod_width.specs.Sizes.{or_zero, memory, in_vector, in_ram, look_index}
 use Rattle.vod_width.specs.declared.decls.Declared.TheVariants as stands
 
 kept_if : (test : ℕ → Bool) (n : Option ℕ) (b : Bool) → kept test (cond b n None) ≡ cond (b && meets test n) n None
@@ -70,25 +70,25 @@ bit_tree v y m low fault t mm f l small e constant =
     ap (λ k. kind.Select v.name k 1) (same ∙ ap (λ o. or_zero o - v.lsb) (sym p.is)) ∙ ap (λ b. cond b (kind.Select v.name (or_zero (natural y) - v.lsb) 1) (kind.Index v.name v.lsb (own y))) (sym constant)))
 
 pub word_tree : (w : WordArray) (y : Looked) (m : Option ℕ) (place : ℕ) (fault : Option Fault) (t : Result SizedExpr Fault) → m ≡ number_where (in_ram w) y → fault ≡ first (y.faults ++ unless (in_ram w) y)
-    → place ≡ min (or_zero m - w.low) 65535 → w.high ≤ 65535 → t ≡ tree_unless fault (kind.Word w.number place) → y.constant ≡ true
+    → place ≡ min (or_zero m - w.low) 65535 → w.high ≤ 65535 → t ≡ tree_unless fault (kind.Word (memory w) place) → y.constant ≡ true
     → TreeIs t (first (look_index 0 (Some (stands.Ram w)) y).faults) ((look_index 0 (Some (stands.Ram w)) y).sized 0 false)
 word_tree w y m place fault t mm f l small e constant =
     let P : Result SizedExpr Fault → Type 0 = λ z. TreeIs z (first (look_index 0 (Some (stands.Ram w)) y).faults) ((look_index 0 (Some (stands.Ram w)) y).sized 0 false) in
-    subst P (sym e) (unless_is fault (first (look_index 0 (Some (stands.Ram w)) y).faults) (kind.Word w.number place) _
+    subst P (sym e) (unless_is fault (first (look_index 0 (Some (stands.Ram w)) y).faults) (kind.Word (memory w) place) _
     (f ∙ ap (λ b. first (y.faults ++ cond b (unless (in_ram w) y) [])) (sym constant))
     (λ h. let p = passed (in_ram w) y (ap (λ b. first (y.faults ++ cond b (unless (in_ram w) y) [])) (sym constant) ∙ h) in
     let is : m ≡ Some p.number = mm ∙ passed_where (in_ram w) y p in
     let inside = place_in_ram w p.number p.holds in
     let same : place ≡ p.number - w.low = l ∙ ap (λ o. min (or_zero o - w.low) 65535) is ∙ omega (arith, inside, small) in
-    ap (λ k. kind.Word w.number k) (same ∙ ap (λ o. or_zero o - w.low) (sym p.is)) ∙ ap (λ b. cond b (kind.Word w.number (or_zero (natural y) - w.low)) (kind.WordIndex w.number w.low (own y))) (sym constant)))
+    ap (λ k. kind.Word (memory w) k) (same ∙ ap (λ o. or_zero o - w.low) (sym p.is)) ∙ ap (λ b. cond b (kind.Word (memory w) (or_zero (natural y) - w.low)) (kind.WordIndex (memory w) w.low (own y))) (sym constant)))
 
 -- an index that is a value
 bit_index_is : (v : Vector) (t : Result SizedExpr Fault) (f : Option Fault) (u : SizedExpr) → TreeIs t f u → TreeIs (bit_index_tree v t) f (node 0 false (kind.Index v.name v.lsb u))
 bit_index_is v (Ok t) f u h = (h.0, ap (λ z. node 0 false (kind.Index v.name v.lsb z)) h.1)
 bit_index_is v (Err g) f u h = h
 
-word_index_is : (m : WordArray) (t : Result SizedExpr Fault) (f : Option Fault) (u : SizedExpr) → TreeIs t f u → TreeIs (word_index_tree m t) f (node 0 false (kind.WordIndex m.number m.low u))
-word_index_is m (Ok t) f u h = (h.0, ap (λ z. node 0 false (kind.WordIndex m.number m.low z)) h.1)
+word_index_is : (m : WordArray) (t : Result SizedExpr Fault) (f : Option Fault) (u : SizedExpr) → TreeIs t f u → TreeIs (word_index_tree m t) f (node 0 false (kind.WordIndex (memory m) m.low u))
+word_index_is m (Ok t) f u h = (h.0, ap (λ z. node 0 false (kind.WordIndex (memory m) m.low z)) h.1)
 word_index_is m (Err g) f u h = h
 
 pub bit_value : (v : Vector) (y : Looked) (r t : Result SizedExpr Fault) → t ≡ bit_index_tree v r → TreeIs r (first y.faults) (own y) → y.constant ≡ false
@@ -103,6 +103,6 @@ pub word_value : (m : WordArray) (y : Looked) (r t : Result SizedExpr Fault) →
     → TreeIs t (first (look_index 0 (Some (stands.Ram m)) y).faults) ((look_index 0 (Some (stands.Ram m)) y).sized 0 false)
 word_value m y r t e h constant =
     let P : Result SizedExpr Fault → Type 0 = λ z. TreeIs z (first (look_index 0 (Some (stands.Ram m)) y).faults) ((look_index 0 (Some (stands.Ram m)) y).sized 0 false) in
-    let Q : Bool → Type 0 = λ b. TreeIs (word_index_tree m r) (first (y.faults ++ cond b (unless (in_ram m) y) [])) (node 0 false (cond b (kind.Word m.number (or_zero (natural y) - m.low)) (kind.WordIndex m.number m.low (own y)))) in
-    let F : Option Fault → Type 0 = λ f. TreeIs (word_index_tree m r) f (node 0 false (kind.WordIndex m.number m.low (own y))) in
+    let Q : Bool → Type 0 = λ b. TreeIs (word_index_tree m r) (first (y.faults ++ cond b (unless (in_ram m) y) [])) (node 0 false (cond b (kind.Word (memory m) (or_zero (natural y) - m.low)) (kind.WordIndex (memory m) m.low (own y)))) in
+    let F : Option Fault → Type 0 = λ f. TreeIs (word_index_tree m r) f (node 0 false (kind.WordIndex (memory m) m.low (own y))) in
     subst P (sym e) (subst Q (sym constant) (subst F (sym (first_nothing y.faults)) (word_index_is m r (first y.faults) (own y) h)))

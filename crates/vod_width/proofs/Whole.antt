@@ -13,7 +13,7 @@ use Rattle.vod_operand.specs.declared.fault.Fault.TheVariants.{Width}
 use Rattle.vod_operand.specs.Operands.{Looked, node, first, at_place}
 use Rattle.vod_operand.specs.Fits.{Fits}
 use Rattle.vod_operand.specs.Found.{Refits, IsNarrow}
-use Rattle.vod_operand.specs.RefitLaws.{conditional_refits, stays, unary_refits, binary_refits}
+use Rattle.vod_operand.specs.RefitLaws.{conditional_refits, placed_refits, stays, unary_refits, binary_refits}
 use Rattle.vod_operand.specs.FaultLaws.{first_append, join_none}
 use Rattle.vod_operand.specs.RefitLaws as refitted
 use Rattle.vod_width.specs.declared.decls.Declared.{Declared}
@@ -107,7 +107,7 @@ unfolding look
 whole_refits decls y =
     let x = map-Expr ((k : ExprKind) × KindRefits decls k) (With decls) ExprKind Expr (λ e. e.0) (λ e. e.0) y in
     let P : Looked → Type 0 = Refits in
-    subst P (sym (fold-roll-Expr (ℕ → Looked) Looked (look_kind decls) look_whole x)) (y.kind.1 y.place)
+    subst P (sym (fold-roll-Expr (ℕ → Looked) Looked (look_kind decls) look_whole x)) (placed_refits y.place (kind_look decls y.kind.0 y.place) (y.kind.1 y.place))
 
 pub refits : (decls : List Declaration) (e : Expr) → Refits (look decls e)
 refits decls =

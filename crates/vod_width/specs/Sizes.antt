@@ -7,6 +7,7 @@ use Rattle.vod_bits.specs.declared.TheConstants.{WIDTH}
 use Rattle.vod_tree.specs.declared.expr.Expr.{Expr}
 use Rattle.vod_tree.specs.declared.expr.ExprKind.TheOpen.{ExprKind-F, Expr-F}
 use Rattle.vod_tree.specs.declared.expr.ExprKind.TheFolds.{fold-Expr, fold-ExprKind}
+use Rattle.vod_design.specs.declared.sized.Memory.{Memory}
 use Rattle.vod_design.specs.declared.sized.Named.{Named}
 use Rattle.vod_design.specs.declared.sized.SizedExpr.{SizedExpr}
 use Rattle.vod_design.specs.declared.statement.Size.{Size}
@@ -14,7 +15,7 @@ use Rattle.vod_design.specs.declared.sized.Named.TheVariants as named
 use Rattle.vod_design.specs.declared.sized.SizedKind.TheVariants as kind
 use Rattle.vod_operand.specs.declared.fault.Fault.{Fault}
 use Rattle.vod_operand.specs.declared.fault.Fault.TheVariants.{Rule, Open}
-use Rattle.vod_operand.specs.Operands.{Looked, node, own, is_sound, looked, value, natural, known_natural, number_where, unless, look_number, at_place}
+use Rattle.vod_operand.specs.Operands.{Looked, node, standing, own, is_sound, looked, value, natural, known_natural, number_where, unless, look_number, at_place}
 use Rattle.vod_operand.specs.Operators.{look_unary, look_binary, look_conditional}
 use Rattle.vod_width.specs.declared.decls.Declared.{Declared}
 use Rattle.vod_width.specs.declared.decls.Sort.{Sort}
@@ -62,6 +63,10 @@ in_vector v n = v.ranged && (nat_le v.lsb n && nat_lt (n - v.lsb) v.width)
 abbrev pub in_ram : WordArray → ℕ → Bool
 in_ram m n = nat_le m.low n && nat_le n m.high
 
+-- a memory as expressions see it
+abbrev pub memory : WordArray → Memory
+memory m = record { number = m.number; width = m.width }
+
 -- whether an index is inside some range (A range's bounds are 0 to 65,535)
 abbrev pub in_some_range : ℕ → Bool
 in_some_range n = nat_le n 65535
@@ -84,7 +89,7 @@ look_index place (Some (stands.Vector v)) i =
     (λ w s. node w s (if i.constant then kind.Select v.name (or_zero (natural i) - v.lsb) 1 else kind.Index v.name v.lsb (own i)))
 look_index place (Some (stands.Ram m)) i =
     looked m.width false false (index_faults (in_ram m) i)
-    (λ w s. node w s (if i.constant then kind.Word m.number (or_zero (natural i) - m.low) else kind.WordIndex m.number m.low (own i)))
+    (λ w s. node w s (if i.constant then kind.Word (memory m) (or_zero (natural i) - m.low) else kind.WordIndex (memory m) m.low (own i)))
 look_index place (Some (stands.Function f)) i = misused place i.faults
 look_index place (Some (stands.Open sort)) i = open_index place sort i
 look_index place None i = misused place i.faults
@@ -160,12 +165,13 @@ total parts = if have_sizes parts then sum (map (λ x. x.width) parts) else 0
 abbrev pub look_concat : List Looked → Looked
 look_concat parts = looked (total parts) false (list_all (λ x. x.constant) parts) (flat_map (λ x. x.faults) parts) (λ w s. node w s (kind.Concat (map own parts)))
 
--- the count is a constant of at least 1; one past WIDTH has too many bits. What its count reads, the whole reads
-abbrev pub look_replicate : Looked → List Looked → Looked
-look_replicate c parts =
+-- the count is a constant of at least 1; one past WIDTH has too many bits. What its count reads, the whole reads. The concatenation
+-- inside it has the place of the whole
+abbrev pub look_replicate : ℕ → Looked → List Looked → Looked
+look_replicate place c parts =
     let count = or_zero (number_where (nat_lt 0) c) in
     looked (count * total parts) false (c.constant && list_all (λ x. x.constant) parts) (c.faults ++ unless (nat_lt 0) c ++ flat_map (λ x. x.faults) parts)
-    (λ w s. node w s (kind.Replicate (min count WIDTH) (node (total parts) false (kind.Concat (map own parts)))))
+    (λ w s. node w s (kind.Replicate (min count WIDTH) (standing place (node (total parts) false (kind.Concat (map own parts))))))
 
 -- each alternative at a place, with what its parts are in their places
 abbrev pub look_kind : List Declaration → ExprKind-F (ℕ → Looked) Looked → ℕ → Looked
@@ -176,7 +182,7 @@ look_kind decls (ExprKind-F.Range name a b) place = look_range place (declared d
 look_kind decls (ExprKind-F.Call name arguments) place = look_call place (declared decls name.name) arguments
 look_kind decls (ExprKind-F.Paren a) place = a
 look_kind decls (ExprKind-F.Concat parts) place = look_concat parts
-look_kind decls (ExprKind-F.Replicate count parts) place = look_replicate count parts
+look_kind decls (ExprKind-F.Replicate count parts) place = look_replicate place count parts
 look_kind decls (ExprKind-F.Unary op a) place = look_unary op a
 look_kind decls (ExprKind-F.Binary op a b) place = look_binary op a b
 look_kind decls (ExprKind-F.Conditional t a b) place = look_conditional t a b

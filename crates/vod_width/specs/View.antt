@@ -8,14 +8,14 @@ use Rattle.vod_design.specs.declared.statement.Size.{Size}
 use Rattle.vod_design.specs.declared.sized.SizedKind.TheVariants as kind
 use Rattle.vod_operand.specs.declared.fault.Fault.{Fault}
 use Rattle.vod_operand.specs.declared.fault.Fault.TheVariants.{Rule, Open}
-use Rattle.vod_operand.specs.Operands.{Looked, node, own, first, meets, sooner, join, known_natural, number_where, unless}
+use Rattle.vod_operand.specs.Operands.{Looked, node, standing, own, first, meets, sooner, join, known_natural, number_where, unless}
 use Rattle.vod_operand.specs.Found.{looked_of, tree_unless}
 use Rattle.vod_operand.specs.declared.tree.Looked as code
 use Rattle.vod_width.specs.declared.decls.Declared.{Declared}
 use Rattle.vod_width.specs.declared.decls.Sort.{Sort}
 use Rattle.vod_width.specs.declared.decls.Vector.{Vector}
 use Rattle.vod_width.specs.declared.decls.WordArray.{WordArray}
-use Rattle.vod_width.specs.Sizes.{is_constant, have_sizes, in_some_range, range_faults}
+use Rattle.vod_width.specs.Sizes.{is_constant, memory, have_sizes, in_some_range, range_faults}
 use Rattle.vod_width.specs.declared.limit.Limit.{Limit}
 use Rattle.vod_width.specs.declared.decls.Declared.TheVariants as stands
 use Rattle.vod_width.specs.declared.decls.Sort.TheVariants as sorts
@@ -125,16 +125,16 @@ bit_index_tree v (Ok i) = Ok (node 0 false (kind.Index v.name v.lsb i))
 bit_index_tree v (Err f) = Err f
 
 abbrev pub word_index_tree : WordArray → Result SizedExpr Fault → Result SizedExpr Fault
-word_index_tree m (Ok i) = Ok (node 0 false (kind.WordIndex m.number m.low i))
+word_index_tree m (Ok i) = Ok (node 0 false (kind.WordIndex (memory m) m.low i))
 word_index_tree m (Err f) = Err f
 
 abbrev pub is_found : Option ℕ → Bool
 is_found None = false
 is_found (Some n) = true
 
--- the tree of a replication: the count, the size of the concatenation and its tree
-abbrev pub replicate_tree_of : Option Fault → ℕ → ℕ → Result SizedExpr Fault → Result SizedExpr Fault
-replicate_tree_of None count width (Ok t) = Ok (node 0 false (kind.Replicate count (node width false t.kind)))
-replicate_tree_of None count width (Err g) = Err g
-replicate_tree_of (Some f) count width (Ok t) = Err f
-replicate_tree_of (Some f) count width (Err g) = Err (sooner f g)
+-- the tree of a replication: the count, and the place, the size and the tree of the concatenation
+abbrev pub replicate_tree_of : Option Fault → ℕ → ℕ → ℕ → Result SizedExpr Fault → Result SizedExpr Fault
+replicate_tree_of None count place width (Ok t) = Ok (node 0 false (kind.Replicate count (standing place (node width false t.kind))))
+replicate_tree_of None count place width (Err g) = Err g
+replicate_tree_of (Some f) count place width (Ok t) = Err f
+replicate_tree_of (Some f) count place width (Err g) = Err (sooner f g)

@@ -1,7 +1,8 @@
 //! What the names of an instance stand for.
-ghost use Rattle.std.specs.Prelude.{◌≡◌, [], ◌∷◌, ◌++◌, None, OnOk, OnErr};
+ghost use Rattle.std.specs.Prelude.{◌≡◌, ◌-◌, [], ◌∷◌, drop, length, OnOk, OnErr};
 ghost use Rattle.std.specs.Option.{option_copied};
 ghost use Rattle.vod_width.specs.Names.{declared, declaration};
+ghost use Rattle.vod_width.specs.Tables.{place_in, declared_at};
 
 use indexmap::IndexMap;
 use std::alloc::{AllocError, Global};
@@ -58,22 +59,59 @@ pub enum Declared {
     Open(Sort),
 }
 
-/// What names stand for, which contracts see as a list of pairs by name, in the order of the declarations.
+// A declaration: the name, what it stands for, and the place of the declaration that it hides, counted from the first one.
+#[derive(Drop)]
+pub struct Entry<'s> {
+    pub name: &'s [u8],
+    pub declared: Declared,
+    pub hidden: Option<usize>,
+}
+
+/// What names stand for, which contracts see as a list of pairs by name, the one that was added last first. The first of a name counts:
+/// so an inner list of declarations, as that of a function, stands before an outer one, and is taken off again.
 #[derive(Drop)]
 pub struct Decls<'s> {
-    table: IndexMap<&'s [u8], Declared>,
+    entries: Vec<Entry<'s>>,
+    latest: IndexMap<&'s [u8], Option<usize>>,
 }
 
 /// The constants of an instance so far.
 pub type Params<'s> = Decls<'s>;
 
 impl<'s> Model for Decls<'s> {
-    ghost use Rattle.std.specs.Prelude.{List, ℕ, map};
+    ghost use Rattle.std.specs.Prelude.{List, ℕ};
     ghost use Rattle.vod_width.specs.declared.decls.Declared.{Declared};
 
     ghost Value = { List (List ℕ × Declared) };
 
-    ghost view = { λ d. map (λ e. (e.0.now, e.1)) d.table.entries };
+    ghost use Rattle.vod_width.specs.Tables.{declarations, IsTable};
+
+    ghost view = { λ d. declarations d.entries.items };
+
+    ghost invariant = { λ d. IsTable d.latest.entries d.entries.items };
+}
+
+// Where the last declaration of a name stands.
+fn place_of(latest: &IndexMap<&[u8], Option<usize>>, name: &[u8]) -> Option<usize>
+    ensures { result ≡ place_in latest.now.entries name.now }
+{
+    match latest.get(name) {
+        Some(place) => *place,
+        None => None,
+    }
+}
+
+// What an entry declares.
+fn declared_at<'d>(entries: &'d [Entry<'_>], place: Option<usize>) -> Option<&'d Declared>
+    ensures { option_copied result ≡ declared_at entries.now place }
+{
+    match place {
+        Some(place) => match entries.get(place) {
+            Some(entry) => Some(&entry.declared),
+            None => None,
+        },
+        None => None,
+    }
 }
 
 impl<'s> Decls<'s> {
@@ -82,24 +120,65 @@ impl<'s> Decls<'s> {
         ensures { result ≡ [] }
     {
         Decls {
-            table: IndexMap::new(alloc),
+            entries: Vec::new(alloc),
+            latest: IndexMap::new(alloc),
         }
+    }
+
+    /// How many declarations there are.
+    pub fn len(&self) -> usize
+        ensures { result ≡ length self.now }
+    {
+        self.entries.len()
     }
 
     /// What a name stands for.
     pub fn get(&self, name: &[u8]) -> Option<&Declared>
         ensures { option_copied result ≡ declared self.now name.now }
     {
-        self.table.get(name)
+        declared_at(&self.entries, place_of(&self.latest, name))
     }
 
-    /// Adds a name that isn't there.
-    pub fn add(&mut self, name: &'s [u8], value: Declared) -> Result<(), AllocError>
-        requires { declared self.old name.now ≡ None }
-        ensures ok { OnOk result (self.new ≡ self.old ++ declaration name.now value ∷ []) }
+    /// Adds a declaration, which hides those of its name.
+    pub fn add(&mut self, name: &'s [u8], declared: Declared) -> Result<(), AllocError>
+        ensures ok { OnOk result (self.new ≡ declaration name.now declared ∷ self.old) }
         ensures err { OnErr result (self.new ≡ self.old) }
     {
-        self.table.insert(name, value)?;
-        Ok(())
+        let place = self.entries.len();
+        let hidden = place_of(&self.latest, name);
+        self.entries.push(Entry {
+            name,
+            declared,
+            hidden,
+        })?;
+        match self.latest.insert(name, Some(place)) {
+            Ok(_) => Ok(()),
+            Err(_) => {
+                self.entries.pop();
+                Err(AllocError)
+            }
+        }
+    }
+
+    /// Takes the last declaration off, so that its name stands for what it stood for before.
+    pub fn remove_last(&mut self)
+        ensures { self.new ≡ drop 1 self.old }
+    {
+        match self.entries.pop() {
+            Some(entry) => match self.latest.insert(entry.name, entry.hidden) {
+                Ok(_) => {}
+                Err(_) => {}
+            },
+            None => {}
+        }
+    }
+
+    /// Takes an inner list of declarations off: all but so many of those that were added first. It costs what it takes off.
+    pub fn truncate(&mut self, count: usize)
+        ensures { self.new ≡ drop (length self.old - count) self.old }
+    {
+        while self.len() > count {
+            self.remove_last();
+        }
     }
 }

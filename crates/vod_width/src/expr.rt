@@ -52,7 +52,7 @@ fn look_kind(alloc: Global, decls: &Decls<'_>, e: &Expr) -> Result<Looked, Alloc
             let times = look_expr(alloc, decls, count.get());
             let concat = look_parts(alloc, decls, parts.as_slice());
             let (count, parts) = both_ok(times, concat)?;
-            replicate(alloc, count, parts)
+            replicate(alloc, e.place, count, parts)
         }
         ExprKind::Unary(op, a) => unary(alloc, *op, look_expr(alloc, decls, a.get())?),
         ExprKind::Binary(op, a, b) => {
@@ -120,7 +120,7 @@ fn look_arguments(
 }
 
 // Both values, where there was memory for both.
-fn both_ok<A: Drop, B: Drop>(
+pub(crate) fn both_ok<A: Drop, B: Drop>(
     a: Result<A, AllocError>,
     b: Result<B, AllocError>,
 ) -> Result<(A, B), AllocError>

@@ -4,6 +4,7 @@
 
 mod decls;
 mod expr;
+mod left;
 mod limit;
 mod number;
 mod parts;
@@ -12,5 +13,6 @@ mod sizing;
 pub mod types;
 
 pub use decls::{Callee, Declared, Decls, Params, Sort, Vector, WordArray};
+pub use left::{Parts, size_left};
 pub use sizing::{constant, first_is_least, own, size, size_at};
 pub use types::WidthFault;

@@ -1,5 +1,5 @@
 //! Parts that have to be constants, and the numbers that they stand for.
-ghost use Rattle.std.specs.Prelude.{◌≡◌, ◌-◌, ◌&&◌, nat_le, nat_lt, IfOk};
+ghost use Rattle.std.specs.Prelude.{◌≡◌, ◌≤◌, ◌-◌, ◌&&◌, nat_le, nat_lt, IfOk};
 ghost use Rattle.vod_operand.specs.Found.{Saw, SeesAs};
 ghost use Rattle.vod_operand.specs.Operands.{Looked as Found, own};
 ghost use Rattle.vod_width.specs.View.{allows, kept, IsNumbered};
@@ -33,18 +33,34 @@ pub struct Numbered {
     pub fault: Option<Fault>,
 }
 
+fn vector_limit(ranged: bool, lsb: u16, width: u8) -> Limit
+    ensures limit { result ≡ limits.Vector ranged lsb width }
+    ensures small { width ≤ 255 }
+{
+    Limit::Vector(ranged, lsb, width)
+}
+
+fn ram_limit(low: u16, high: u16) -> Limit
+    ensures limit { result ≡ limits.Ram low high }
+    ensures small { high ≤ 65535 }
+{
+    Limit::Ram(low, high)
+}
+
 // Inside the range of a vector.
 pub(crate) fn in_vector(v: &Vector) -> Limit
-    ensures { result ≡ limits.Vector v.now.ranged v.now.lsb v.now.width }
+    ensures limit { result ≡ limits.Vector v.now.ranged v.now.lsb v.now.width }
+    ensures small { v.now.width ≤ 255 }
 {
-    Limit::Vector(v.ranged, v.lsb, v.width)
+    vector_limit(v.ranged, v.lsb, v.width)
 }
 
 // Inside the range of a memory.
 pub(crate) fn in_ram(m: &WordArray) -> Limit
-    ensures { result ≡ limits.Ram m.now.low m.now.high }
+    ensures limit { result ≡ limits.Ram m.now.low m.now.high }
+    ensures small { m.now.high ≤ 65535 }
 {
-    Limit::Ram(m.low, m.high)
+    ram_limit(m.low, m.high)
 }
 
 // Whether a number is so many above the least one, and below a count.
@@ -94,7 +110,11 @@ pub(crate) fn number_within(alloc: Global, limit: Limit, x: &Looked) -> Result<N
 }
 
 // The same of a part that has no size as yet.
-pub(crate) fn own_number_within(alloc: Global, limit: Limit, x: Looked) -> Result<Numbered, AllocError>
+pub(crate) fn own_number_within(
+    alloc: Global,
+    limit: Limit,
+    x: Looked,
+) -> Result<Numbered, AllocError>
     ensures { IfOk result (λ p. (y : Found) → Saw x y → IsNumbered (allows limit) p y) }
 {
     let x = fit_own(alloc, x)?;

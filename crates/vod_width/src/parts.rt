@@ -14,9 +14,7 @@ use sqlite_items::{Boxed, Items};
 use std::alloc::{AllocError, Global};
 use vod_bits::{WIDTH, Word};
 use vod_design::{Size, SizedExpr, SizedKind};
-use vod_operand::{
-    Fault, Looked, WIDE, both_hold, fit, sooner, unplaced, unsized_node,
-};
+use vod_operand::{Fault, Looked, WIDE, both_hold, fit, sooner, unplaced, unsized_node};
 use vod_tree::let_go;
 
 // Parts, each at its own size: the sum of their widths, whether all have a width and whether all are constant, and their trees or the
@@ -42,7 +40,7 @@ pub(crate) fn no_parts(alloc: Global) -> Parts
 }
 
 // The sum of two widths, as far as it counts.
-fn wider(a: u8, b: u8) -> u8
+pub(crate) fn wider(a: u8, b: u8) -> u8
     ensures { result ≡ min (a + b) 65 }
 {
     a.saturating_add(b).min(WIDE)
@@ -109,7 +107,7 @@ pub(crate) fn concat(parts: Parts) -> Looked
 }
 
 // So many times a width, as far as it counts.
-fn times(count: Word, width: u8) -> u8
+fn times_wide(count: Word, width: u8) -> u8
     ensures { result ≡ min (count * width) 65 }
 {
     count
@@ -129,15 +127,17 @@ fn replicate_tree(
     alloc: Global,
     fault: Option<Fault>,
     count: u8,
+    place: u32,
     width: u8,
     concat: Result<SizedExpr, Fault>,
 ) -> Result<Result<SizedExpr, Fault>, AllocError>
-    ensures { IfOk result (λ r. r ≡ replicate_tree_of fault count width concat) }
+    ensures { IfOk result (λ r. r ≡ replicate_tree_of fault count place width concat) }
 {
     match fault {
         None => match concat {
             Ok(concat) => {
                 let concat = SizedExpr {
+                    place,
                     width,
                     signed: false,
                     kind: concat.kind,
@@ -155,11 +155,16 @@ fn replicate_tree(
 }
 
 // `{n{ }}`
-pub(crate) fn replicate(alloc: Global, count: Looked, parts: Parts) -> Result<Looked, AllocError>
-    ensures { IfOk result (λ c. (x : Found) (ys : List Found) → Saw count x → SeesParts parts ys → SeesKind c (look_replicate x ys)) }
+pub(crate) fn replicate(
+    alloc: Global,
+    place: u32,
+    count: Looked,
+    parts: Parts,
+) -> Result<Looked, AllocError>
+    ensures { IfOk result (λ c. (x : Found) (ys : List Found) → Saw count x → SeesParts parts ys → SeesKind c (look_replicate place x ys)) }
 {
     match own_number_within(alloc, Limit::Count, count) {
-        Ok(count) => replicated(alloc, count, parts),
+        Ok(count) => replicated(alloc, place, count, parts),
         Err(e) => {
             let_go(parts);
             Err(e)
@@ -168,15 +173,21 @@ pub(crate) fn replicate(alloc: Global, count: Looked, parts: Parts) -> Result<Lo
 }
 
 // The same, where it is known what the count is.
-fn replicated(alloc: Global, count: Numbered, parts: Parts) -> Result<Looked, AllocError>
-    ensures { IfOk result (λ c. (x : Found) (ys : List Found) → IsNumbered (nat_lt 0) count x → SeesParts parts ys → SeesKind c (look_replicate x ys)) }
+fn replicated(
+    alloc: Global,
+    place: u32,
+    count: Numbered,
+    parts: Parts,
+) -> Result<Looked, AllocError>
+    ensures { IfOk result (λ c. (x : Found) (ys : List Found) → IsNumbered (nat_lt 0) count x → SeesParts parts ys → SeesKind c (look_replicate place x ys)) }
 {
     let number = or_zero(count.number);
     let width = total(&parts);
     let constant = both_hold(count.constant, parts.constant);
     let concat = concat_tree(parts.trees);
-    let tree = replicate_tree(alloc, count.fault, tree_count(number), width, concat)?;
-    Ok(unplaced(times(number, width), false, constant, tree))
+    let times = tree_count(number);
+    let tree = replicate_tree(alloc, count.fault, times, place, width, concat)?;
+    Ok(unplaced(times_wide(number, width), false, constant, tree))
 }
 
 // A number, or 0.

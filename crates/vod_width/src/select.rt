@@ -4,7 +4,7 @@ ghost use Rattle.std.specs.Option.{option_copied};
 ghost use Rattle.vod_width.specs.declared.decls.Declared.TheVariants as stands;
 ghost use Rattle.vod_width.specs.Names.{declared};
 ghost use Rattle.vod_operand.specs.Operands.{Looked as Found, own, first};
-ghost use Rattle.vod_width.specs.Sizes.{misused, selected, in_wrong_order, is_constant, index_faults, open_index, open_range, look_index, look_range};
+ghost use Rattle.vod_width.specs.Sizes.{memory, misused, selected, in_wrong_order, is_constant, index_faults, open_index, open_range, look_index, look_range};
 ghost use Rattle.vod_operand.specs.Found.{Sees, Saw, SeesAs, looked_of};
 ghost use Rattle.vod_width.specs.View.{allows, AreBounds, misused_tree, open_tree, named_of, open_named_of, bit_index_tree, word_index_tree};
 
@@ -14,7 +14,7 @@ use crate::number::{above, byte, two_bytes};
 use sqlite_items::Boxed;
 use std::alloc::{AllocError, Global};
 use vod_bits::{Bits, Word};
-use vod_design::{Named, SizedExpr, SizedKind};
+use vod_design::{Memory, Named, SizedExpr, SizedKind};
 use vod_operand::{
     Fault, Looked, WIDE, both_hold, fault_if, fault_of, fit_own, fit_own_pair, join, tree_unless,
     unplaced, unsized_node,
@@ -61,7 +61,7 @@ fn open_name(place: u32, sort: Sort) -> Looked
     }
 }
 
-fn is_constant(name: Named) -> bool
+pub(crate) fn is_constant(name: Named) -> bool
     ensures { result ≡ is_constant name }
 {
     match name {
@@ -107,12 +107,7 @@ fn index_fault(alloc: Global, limit: Limit, i: &Looked) -> Result<Option<Fault>,
 }
 
 // A bit or word of an open name.
-fn index_open(
-    alloc: Global,
-    place: u32,
-    sort: Sort,
-    i: &Looked,
-) -> Result<Looked, AllocError>
+fn index_open(alloc: Global, place: u32, sort: Sort, i: &Looked) -> Result<Looked, AllocError>
     ensures { IfOk result (λ c. (y : Found) → SeesAs i.now y (own y) → Sees c (open_index place sort y)) }
 {
     let fault = index_fault(alloc, Limit::SomeRange, i)?;
@@ -172,6 +167,16 @@ fn bit_index_tree(
     }
 }
 
+// A memory as expressions see it.
+fn memory(m: &WordArray) -> Memory
+    ensures { result ≡ memory m.now }
+{
+    Memory {
+        number: m.number,
+        width: m.width,
+    }
+}
+
 // A word of a memory.
 fn index_ram(alloc: Global, m: &WordArray, i: Looked) -> Result<Looked, AllocError>
     ensures { IfOk result (λ c. (y : Found) → SeesAs i y (own y) → Sees c (look_index 0 (Some (stands.Ram m.now)) y)) }
@@ -189,7 +194,7 @@ fn word_select(alloc: Global, m: &WordArray, i: &Looked) -> Result<Looked, Alloc
 {
     let n = number_within(alloc, in_ram(m), i)?;
     let place = two_bytes(above(n.number, m.low));
-    let tree = tree_unless(n.fault, SizedKind::Word(m.number, place));
+    let tree = tree_unless(n.fault, SizedKind::Word(memory(m), place));
     Ok(unplaced(capped(m.width), false, false, tree))
 }
 
@@ -212,7 +217,7 @@ fn word_index_tree(
     match index {
         Ok(index) => {
             let index = Boxed::new(alloc, index)?;
-            Ok(Ok(unsized_node(SizedKind::WordIndex(m.number, m.low, index))))
+            Ok(Ok(unsized_node(SizedKind::WordIndex(memory(m), m.low, index))))
         }
         Err(f) => Ok(Err(f)),
     }

@@ -91,7 +91,7 @@ pub fn first_is_least()
 {}
 
 // A fault as a refusal.
-fn refusal(fault: Fault) -> WidthFault
+pub(crate) fn refusal(fault: Fault) -> WidthFault
     ensures { result ≡ refusal_of fault }
 {
     match fault {

@@ -21,4 +21,4 @@ pub fit_kind-returns-in_default : goal.fit_kind-returns-in_default
 fit_kind-returns-in_default t c = other c.args.width c.args.signed c.args.kind c.in_default.not-Unary c.in_default.not-Binary c.in_default.not-Shift c.in_default.not-Conditional
 
 pub fit_tree-returns : goal.fit_tree-returns
-fit_tree-returns t c = fits c.args.width c.args.signed c.args.e _ refl refl c.in_ok-kind.ensures
+fit_tree-returns t c = fits c.args.width c.args.signed c.args.e _ refl refl refl c.in_ok-kind.ensures

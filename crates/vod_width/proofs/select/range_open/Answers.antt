@@ -1,7 +1,7 @@
 use Rattle.std.proofs.Common.{false, sym, refl, subst, arith, ◌&&◌}
 use Rattle.vod_operand.specs.Found.{Sees}
 use Rattle.vod_width.specs.declared.decls.Sort.{Sort}
-use Rattle.vod_width.specs.Sizes.{in_some_range, index_faults, range_faults, open_index, open_range}
+use Rattle.vod_width.specs.Sizes.{in_some_range, range_faults, open_range}
 use Rattle.vod_width.proofs.Ranges.{open_sees}
 use Rattle.vod_width.proofs.select.range_open.Goals as goal
 
