@@ -87,7 +87,7 @@ pub add_reads-returns-in_ok-add_reads-in-Conditional-2 : goal.add_reads-returns-
 add_reads-returns-in_ok-add_reads-in-Conditional-2 t c =
     let r = reads_at c.args.e.now (SizedKind-F.Conditional c.in-Conditional.test c.in-Conditional.a c.in-Conditional.b) (c.in-Conditional.is ∙ sym (rolls-Conditional c.in-Conditional.test c.in-Conditional.a c.in-Conditional.b)) in
     let so_far = c.in_ok-add_reads-in-Conditional-2.ensures ∙ ap (λ m. m ++ reads c.get-in-Conditional-2.result.now) c.in_ok-add_reads-in-Conditional.ensures
-        ∙ append_assoc c.args.list.now.items (reads c.get-in-Conditional.result.now) (reads c.get-in-Conditional-2.result.now) in
+    ∙ append_assoc c.args.list.now.items (reads c.get-in-Conditional.result.now) (reads c.get-in-Conditional-2.result.now) in
     rw (r, ← c.get-in-Conditional.ensures, ← c.get-in-Conditional-2.ensures, ← c.get-in-Conditional-3.ensures) (behind c.add_reads-in-Conditional-3.result _ _ c.args.list.now.items _ _ so_far c.add_reads-in-Conditional-3.ensures)
 
 pub add_reads-returns-in-Concat : goal.add_reads-returns-in-Concat
