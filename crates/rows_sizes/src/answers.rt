@@ -2,6 +2,7 @@
 ghost use Rattle.std.specs.Prelude.{◌≤◌, ◌<◌, IfOk, vec_len};
 ghost use Rattle.vod_eval.specs.Room.{room_of};
 
+use crate::lefts::{left_of, print_left};
 use crate::names::{World, declare_all};
 use rows_digits::{Digits, truth};
 use std::alloc::{AllocError, Global};
@@ -13,7 +14,7 @@ use vod_expr::read_expr;
 use vod_four::Four;
 use vod_token::tokens;
 use vod_tree::Expr;
-use vod_width::{Decls, WidthFault, constant, size};
+use vod_width::{Decls, WidthFault, constant, own, size, size_at};
 
 /// The longest expression of a row, in bytes.
 const LONGEST: usize = 1000;
@@ -50,7 +51,8 @@ fn room(alloc: Global, functions: &[Function], e: &SizedExpr) -> Result<Vec<Four
     Ok(room)
 }
 
-fn value(alloc: Global, world: &World, e: &SizedExpr) -> Result<Four, AllocError> {
+/// The value of an expression that was given a size.
+pub fn value(alloc: Global, world: &World, e: &SizedExpr) -> Result<Four, AllocError> {
     let functions = world.functions.as_slice();
     let mut room = room(alloc, functions, e)?;
     Ok(value_of(
@@ -67,7 +69,7 @@ fn print_value(rt: &impl Print, width: u8, signed: bool, value: Four) -> io::Res
     println!(rt; "{width} {sign} {}", Digits(value))
 }
 
-fn print_fault(rt: &impl Print, fault: WidthFault) -> io::Result<()> {
+pub fn print_fault(rt: &impl Print, fault: WidthFault) -> io::Result<()> {
     match fault {
         WidthFault::Rule { place } => println!(rt; "rule at {place}"),
         WidthFault::Width { place } => println!(rt; "width at {place}"),
@@ -83,6 +85,12 @@ pub enum Question {
     Size(u8),
     /// What it stands for as a constant.
     Constant,
+    /// Its own size and sign, and whether it is constant.
+    Own,
+    /// Its size, sign and value at this size and sign.
+    At(u8, bool),
+    /// The place of its first token.
+    Place,
 }
 
 /// Prints the size, sign and value of an expression that was given a size.
@@ -117,6 +125,38 @@ fn print_size(
     }
 }
 
+fn print_own(rt: &(impl Print + AllocGlobal), decls: &Decls<'_>, expr: &Expr) -> io::Result<()> {
+    match own(rt.alloc(), expr, decls) {
+        Ok(own) => {
+            let sign = if own.signed { "signed" } else { "unsigned" };
+            let kind = if own.constant { "constant" } else { "variable" };
+            println!(rt; "{} {sign} {kind}", own.width)
+        }
+        Err(fault) => print_fault(rt, fault),
+    }
+}
+
+fn print_size_at(
+    rt: &(impl Print + AllocGlobal),
+    world: &World,
+    decls: &Decls<'_>,
+    expr: &Expr,
+    width: u8,
+    signed: bool,
+) -> io::Result<()> {
+    match size_at(rt.alloc(), expr, decls, width, signed) {
+        Ok(e) => print_sized(rt, world, &e),
+        Err(fault) => print_fault(rt, fault),
+    }
+}
+
+fn print_place(rt: &(impl Print + AllocGlobal), decls: &Decls<'_>, expr: &Expr) -> io::Result<()> {
+    match size(rt.alloc(), expr, decls, 0) {
+        Ok(e) => println!(rt; "at {}", e.place),
+        Err(fault) => print_fault(rt, fault),
+    }
+}
+
 /// Prints the answer on an expression of declared names.
 fn print_found(
     rt: &(impl Print + AllocGlobal),
@@ -134,6 +174,9 @@ fn print_found(
             }
         }
         Question::Constant => print_constant(rt, decls, expr),
+        Question::Own => print_own(rt, decls, expr),
+        Question::At(width, signed) => print_size_at(rt, world, decls, expr, width, signed),
+        Question::Place => print_place(rt, decls, expr),
     }
 }
 
@@ -161,6 +204,29 @@ pub fn print_answer(
 ) -> io::Result<()> {
     match read(rt.alloc(), text) {
         Some(expr) => print_expr(rt, names, question, &expr),
+        None => rt.println("not a row"),
+    }
+}
+
+/// Prints the answer on a left side, where the names are those of a text.
+fn print_left_of(rt: &(impl Print + AllocGlobal), names: &str, expr: Expr) -> io::Result<()> {
+    let mut world = World::new(rt.alloc());
+    let mut decls = Decls::new(rt.alloc());
+    declare_all(rt.alloc(), &mut world, &mut decls, names)?;
+    match left_of(rt.alloc(), expr)? {
+        Some(left) => print_left(rt, &world, &decls, &left),
+        None => rt.println("not a row"),
+    }
+}
+
+/// Prints the answer on the left side that a text is.
+pub fn print_left_answer(
+    rt: &(impl Print + AllocGlobal),
+    names: &str,
+    text: &str,
+) -> io::Result<()> {
+    match read(rt.alloc(), text) {
+        Some(expr) => print_left_of(rt, names, expr),
         None => rt.println("not a row"),
     }
 }

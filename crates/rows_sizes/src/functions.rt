@@ -2,7 +2,8 @@
 use sqlite_items::Items;
 use std::alloc::{AllocError, Global};
 use vod_design::{
-    Body, Function, Locals, Named, Part, PartPlace, Size, SizedExpr, SizedKind, Statement, Variable,
+    Body, Function, Locals, Named, Part, PartTarget, Size, SizedExpr, SizedKind, Statement,
+    Variable,
 };
 
 /// The sizes of the inputs of a function of one input.
@@ -14,9 +15,10 @@ pub fn inputs(alloc: Global, input: Size) -> Result<Locals, AllocError> {
 fn whole_result(alloc: Global, width: u8) -> Result<Items<Part>, AllocError> {
     let mut parts = Items::new(alloc);
     parts.push(Part {
+        place: 0,
         low: 0,
         width,
-        place: PartPlace::Bits(Variable::Local(1), 0),
+        target: PartTarget::Bits(Variable::Local(1), 0),
     })?;
     Ok(parts)
 }
@@ -26,6 +28,7 @@ pub fn copy(alloc: Global, width: u8, input: Size) -> Result<Function, AllocErro
     let inputs = inputs(alloc, input)?;
     let parts = whole_result(alloc, width)?;
     let value = SizedExpr {
+        place: 0,
         width: width.max(input.width),
         signed: input.signed,
         kind: SizedKind::Name(Named::Variable(Variable::Local(0))),

@@ -1,12 +1,14 @@
-//! Rows over the sizes, signs and values of expressions. A `declare` row says what names stand for in the rows behind it; a `size`
-//! row has the size of a context, 0 for none, and an expression; a `constant` row has an expression.
+//! Rows over the sizes, signs and values of expressions, and over left sides. A `declare` row says what names stand for in the rows
+//! behind it; a `size` row has the size of a context, 0 for none, and an expression; an `at` row has a size, a sign and an expression;
+//! a `constant`, `own` or `place` row has an expression, and a `left` row a left side.
 #![tactic(auto)]
 
 mod answers;
 mod functions;
+mod lefts;
 mod names;
 
-use crate::answers::{Question, print_answer, print_count, print_message};
+use crate::answers::{Question, print_answer, print_count, print_left_answer, print_message};
 use rows_digits::named;
 use std::io;
 
@@ -16,13 +18,21 @@ enum Call {
     Declare,
     Size,
     Constant,
+    Own,
+    At,
+    Place,
+    Left,
     Message,
 }
 
-const CALLS: [(&str, Call); 4] = [
+const CALLS: [(&str, Call); 8] = [
     ("declare", Call::Declare),
     ("size", Call::Size),
     ("constant", Call::Constant),
+    ("own", Call::Own),
+    ("at", Call::At),
+    ("place", Call::Place),
+    ("left", Call::Left),
     ("message", Call::Message),
 ];
 
@@ -41,6 +51,16 @@ fn sized(rt: &(impl Print + AllocGlobal), rest: &str, names: &str) -> io::Result
     }
 }
 
+/// Prints the answer on the size, the sign and the expression of a row.
+fn sized_at(rt: &(impl Print + AllocGlobal), rest: &str, names: &str) -> io::Result<()> {
+    let (width, rest) = rest.split_once(' ').unwrap_or((rest, ""));
+    let (sign, text) = rest.split_once(' ').unwrap_or((rest, ""));
+    match width.parse() {
+        Ok(width) => print_answer(rt, names, Question::At(width, sign == "signed"), text),
+        Err(_) => rt.println("not a row"),
+    }
+}
+
 /// Prints what the call of a row gives for the text behind its name.
 fn answer(
     rt: &(impl Print + AllocGlobal),
@@ -52,6 +72,10 @@ fn answer(
         Call::Declare => declare(rt, rest, names),
         Call::Size => sized(rt, rest, names.as_str()),
         Call::Constant => print_answer(rt, names.as_str(), Question::Constant, rest),
+        Call::Own => print_answer(rt, names.as_str(), Question::Own, rest),
+        Call::At => sized_at(rt, rest, names.as_str()),
+        Call::Place => print_answer(rt, names.as_str(), Question::Place, rest),
+        Call::Left => print_left_answer(rt, names.as_str(), rest),
         Call::Message => print_message(rt, rest),
     }
 }

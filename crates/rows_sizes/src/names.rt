@@ -7,6 +7,8 @@
 //!   result and its input;
 //! - `NAME:open_net`, `NAME:open_parameter`, `NAME:open_ram` and `NAME:open_function`: a name whose size, range or value couldn't be
 //!   formed.
+//!
+//! Names behind `{` hide those before it, up to the next `}`, which takes them off again.
 use crate::functions::{copy, inputs};
 use rows_digits::{named, value, width};
 use sqlite_items::Items;
@@ -64,16 +66,19 @@ fn next(count: usize) -> u32 {
     u32::try_from(count).unwrap_or(u32::MAX)
 }
 
-/// Says what a new name stands for; false where it isn't new.
-fn add<'s>(decls: &mut Decls<'s>, name: &'s str, declared: Declared) -> Result<bool, AllocError> {
+/// Says what a name stands for; false where it isn't new and may not hide another.
+fn add<'s>(
+    decls: &mut Decls<'s>,
+    name: &'s str,
+    declared: Declared,
+    hides: bool,
+) -> Result<bool, AllocError> {
     let bytes = name.as_bytes();
-    match decls.get(bytes) {
-        None => {
-            decls.add(bytes, declared)?;
-            Ok(true)
-        }
-        Some(_) => Ok(false),
+    if !hides && decls.get(bytes).is_some() {
+        return Ok(false);
     }
+    decls.add(bytes, declared)?;
+    Ok(true)
 }
 
 /// A signal with this value.
@@ -198,6 +203,7 @@ fn declare<'s>(
     world: &mut World,
     decls: &mut Decls<'s>,
     word: &'s str,
+    hides: bool,
 ) -> Result<bool, AllocError> {
     let parts: Vec<&'s str> = word.split(':').collect(alloc)?;
     let [name, sort, rest @ ..] = parts.as_slice() else {
@@ -207,7 +213,7 @@ fn declare<'s>(
         return Ok(false);
     };
     match sorted(alloc, world, sort, rest)? {
-        Some(declared) => add(decls, name, declared),
+        Some(declared) => add(decls, name, declared, hides),
         None => Ok(false),
     }
 }
@@ -220,8 +226,14 @@ pub fn declare_all<'s>(
     names: &'s str,
 ) -> Result<usize, AllocError> {
     let mut count: usize = 0;
+    let mut outer: Option<usize> = None;
     for word in names.split_whitespace() {
-        if declare(alloc, world, decls, word)? {
+        if word == "{" {
+            outer = Some(decls.len());
+        } else if word == "}" {
+            decls.truncate(outer.unwrap_or(0));
+            outer = None;
+        } else if declare(alloc, world, decls, word, outer.is_some())? {
             count = count.saturating_add(1);
         }
     }
