@@ -8,8 +8,8 @@ use rows_digits::{Digits, truth};
 use std::alloc::{AllocError, Global};
 use std::io;
 use vod_bits::WIDTH;
-use vod_design::{Function, SizedExpr};
-use vod_eval::{call_rooms, expr_room, value_of};
+use vod_design::{Function, Read, SizedExpr};
+use vod_eval::{add_reads, call_rooms, expr_room, value_of};
 use vod_expr::read_expr;
 use vod_four::Four;
 use vod_token::tokens;
@@ -91,6 +91,8 @@ pub enum Question {
     At(u8, bool),
     /// The place of its first token.
     Place,
+    /// What it can read.
+    Reads,
 }
 
 /// Prints the size, sign and value of an expression that was given a size.
@@ -157,6 +159,36 @@ fn print_place(rt: &(impl Print + AllocGlobal), decls: &Decls<'_>, expr: &Expr) 
     }
 }
 
+fn print_read(rt: &impl Print, read: Read) -> io::Result<()> {
+    match read {
+        Read::Whole(signal) => print!(rt; "whole {signal}"),
+        Read::Bits(signal, low, width) => print!(rt; "bits {signal} {low} {width}"),
+        Read::Word(memory, place) => print!(rt; "word {memory} {place}"),
+        Read::Ram(memory) => print!(rt; "ram {memory}"),
+    }
+}
+
+fn print_reads(rt: &(impl Print + AllocGlobal), e: &SizedExpr) -> io::Result<()> {
+    let mut reads = Vec::new(rt.alloc());
+    add_reads(e, &mut reads)?;
+    for (i, read) in reads.as_slice().iter().enumerate() {
+        rt.print(if i == 0 { "" } else { ", " })?;
+        print_read(rt, *read)?;
+    }
+    rt.println("")
+}
+
+fn print_reads_of(
+    rt: &(impl Print + AllocGlobal),
+    decls: &Decls<'_>,
+    expr: &Expr,
+) -> io::Result<()> {
+    match size(rt.alloc(), expr, decls, 0) {
+        Ok(e) => print_reads(rt, &e),
+        Err(fault) => print_fault(rt, fault),
+    }
+}
+
 /// Prints the answer on an expression of declared names.
 fn print_found(
     rt: &(impl Print + AllocGlobal),
@@ -177,6 +209,7 @@ fn print_found(
         Question::Own => print_own(rt, decls, expr),
         Question::At(width, signed) => print_size_at(rt, world, decls, expr, width, signed),
         Question::Place => print_place(rt, decls, expr),
+        Question::Reads => print_reads_of(rt, decls, expr),
     }
 }
 

@@ -21,17 +21,19 @@ enum Call {
     Own,
     At,
     Place,
+    Reads,
     Left,
     Message,
 }
 
-const CALLS: [(&str, Call); 8] = [
+const CALLS: [(&str, Call); 9] = [
     ("declare", Call::Declare),
     ("size", Call::Size),
     ("constant", Call::Constant),
     ("own", Call::Own),
     ("at", Call::At),
     ("place", Call::Place),
+    ("reads", Call::Reads),
     ("left", Call::Left),
     ("message", Call::Message),
 ];
@@ -75,6 +77,7 @@ fn answer(
         Call::Own => print_answer(rt, names.as_str(), Question::Own, rest),
         Call::At => sized_at(rt, rest, names.as_str()),
         Call::Place => print_answer(rt, names.as_str(), Question::Place, rest),
+        Call::Reads => print_answer(rt, names.as_str(), Question::Reads, rest),
         Call::Left => print_left_answer(rt, names.as_str(), rest),
         Call::Message => print_message(rt, rest),
     }
