@@ -71,7 +71,7 @@ fn show_headers(alloc: Global, page: &mut Page, module: &Module) -> Result<(), A
 
 fn show_function(alloc: Global, page: &mut Page, item: &Item) -> Result<(), AllocError> {
     if let ItemKind::Function(function) = &item.kind {
-        show_inputs(alloc, page, function)?;
+        show_inputs(alloc, page, function.get())?;
     }
     Ok(())
 }

@@ -86,7 +86,7 @@ fn statement_word(kind: &StatementKind) -> &'static str {
 fn show_statement_parts(page: &mut Page, kind: &StatementKind) {
     match kind {
         StatementKind::Nonblocking(target, value) | StatementKind::Blocking(target, value) => {
-            show_lval(page, target);
+            show_lval(page, target.get());
             show_expr(page, value)
         }
         StatementKind::If(test, taken, other) => {

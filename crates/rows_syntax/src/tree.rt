@@ -125,9 +125,9 @@ fn show_item(page: &mut Page, kind: &ItemKind) {
         ItemKind::Assign(assignments) => show_assignments(page, assignments.as_slice()),
         ItemKind::Gate(gate) => show_gate(page, gate),
         ItemKind::Instances(instances) => show_instances(page, instances),
-        ItemKind::Function(function) => show_function(page, function),
-        ItemKind::Initial(statement) => show_initial(page, statement),
-        ItemKind::Always(always) => show_always(page, always),
+        ItemKind::Function(function) => show_function(page, function.get()),
+        ItemKind::Initial(statement) => show_initial(page, statement.get()),
+        ItemKind::Always(always) => show_always(page, always.get()),
     }
 }
 

@@ -8,7 +8,7 @@ ghost use Rattle.vod_parse.specs.ItemsForm.{behavior_form, gate_or, item_form, i
 
 use crate::functions::function;
 use crate::processes::{always, assignments};
-use sqlite_items::Items;
+use sqlite_items::{Boxed, Items};
 use vod_declaration::{declaration, is_declaration};
 use vod_expr::ParseFault;
 use vod_grammar::{Reader, Word};
@@ -82,7 +82,11 @@ fn behavior(reader: Reader<'_>, at: &mut usize) -> Result<ItemKind, ParseFault>
     match reader.takes(at, Word::Assign) {
         Some(_) => Ok(ItemKind::Assign(assignments(reader, at)?)),
         None => match reader.takes(at, Word::Function) {
-            Some(place) => Ok(ItemKind::Function(function(reader, at, place)?)),
+            Some(place) => {
+                let function = function(reader, at, place)?;
+                let function = Boxed::new(reader.alloc, function)?;
+                Ok(ItemKind::Function(function))
+            }
             None => process(reader, at),
         },
     }
@@ -94,9 +98,17 @@ fn process(reader: Reader<'_>, at: &mut usize) -> Result<ItemKind, ParseFault>
     ensures { Gives result (left reader.entry at.new) ((process_form (length reader.entry.tokens.now)).read (left reader.entry at.old)) }
 {
     match reader.takes(at, Word::Initial) {
-        Some(_) => Ok(ItemKind::Initial(initial_statement(reader, at)?)),
+        Some(_) => {
+            let initial = initial_statement(reader, at)?;
+            let initial = Boxed::new(reader.alloc, initial)?;
+            Ok(ItemKind::Initial(initial))
+        }
         None => match reader.takes(at, Word::Always) {
-            Some(place) => Ok(ItemKind::Always(always(reader, at, place)?)),
+            Some(place) => {
+                let always = always(reader, at, place)?;
+                let always = Boxed::new(reader.alloc, always)?;
+                Ok(ItemKind::Always(always))
+            }
             None => Ok(ItemKind::Instances(instances(reader, at)?)),
         },
     }

@@ -192,13 +192,16 @@ fn blocking(reader: Reader<'_>, at: &mut usize) -> Result<StatementKind, ParseFa
 }
 
 // A left side and the word behind it.
-fn target(reader: Reader<'_>, at: &mut usize, word: Word) -> Result<Lval, ParseFault>
+fn target(reader: Reader<'_>, at: &mut usize, word: Word) -> Result<Boxed<Lval>, ParseFault>
     requires { IsOfSource reader }
     ensures { Gives result (left reader.entry at.new) ((target_form (length reader.entry.tokens.now) word).read (left reader.entry at.old)) }
 {
     let target = left_side(reader, at)?;
     match reader.word(at, word) {
-        Ok(_) => Ok(target),
+        Ok(_) => {
+            let target = Boxed::new(reader.alloc, target)?;
+            Ok(target)
+        }
         Err(fault) => {
             let_go(target);
             Err(fault)

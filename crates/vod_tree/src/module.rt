@@ -7,7 +7,7 @@ use crate::{
     ParameterDeclaration, ParameterPort, Ports, Range, RegDeclaration, Statement,
     VariableDeclaration,
 };
-use sqlite_items::Items;
+use sqlite_items::{Boxed, Items};
 
 /// `input` in the header of a function: whether `signed` stands behind it, its range and its name.
 #[derive(Drop)]
@@ -76,9 +76,9 @@ pub enum ItemKind {
     Assign(Items<Assignment>),
     Gate(Gate),
     Instances(Instances),
-    Function(Function),
-    Initial(InitialStatement),
-    Always(Always),
+    Function(Boxed<Function>),
+    Initial(Boxed<InitialStatement>),
+    Always(Boxed<Always>),
 }
 
 /// A module: its name, the parameters of its header, its ports and its items (12.1).

@@ -43,9 +43,9 @@ pub struct Statement {
 #[derive(Drop)]
 pub enum StatementKind {
     /// `lval <= expr ;` (9.2.2).
-    Nonblocking(Lval, Expr),
+    Nonblocking(Boxed<Lval>, Expr),
     /// `lval = expr ;` (9.2.1).
-    Blocking(Lval, Expr),
+    Blocking(Boxed<Lval>, Expr),
     /// The test, the branch that is taken where it is true, and the other (9.4).
     If(Expr, Boxed<Statement>, Option<Boxed<Statement>>),
     /// The value and the items (9.5).
