@@ -95,9 +95,9 @@ pub fn show_ports(page: &mut Page, ports: &Ports) {
 fn show_declared_ports(page: &mut Page, ports: &[DeclaredPort]) {
     for port in ports {
         match port {
-            DeclaredPort::Input(net) => show_net_port(page, "input", net),
-            DeclaredPort::Output(net) => show_net_port(page, "output", net),
-            DeclaredPort::OutputReg(register) => show_reg_port(page, register),
+            DeclaredPort::Input(net) => show_net_port(page, "input", net.get()),
+            DeclaredPort::Output(net) => show_net_port(page, "output", net.get()),
+            DeclaredPort::OutputReg(register) => show_reg_port(page, register.get()),
             DeclaredPort::Further(ident) => show_ident(page, ident),
             DeclaredPort::FurtherValue(setting) => show_setting(page, setting),
         }

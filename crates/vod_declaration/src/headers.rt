@@ -4,7 +4,7 @@ ghost use Rattle.vod_grammar.specs.State.{left, Gives, IsOfSource};
 ghost use Rattle.vod_declaration.specs.PortsForm.{further_port, input_port, is_reg, more_ports, net_port, output_port, port_form, port_list, reg_port, some_ports, valued, value_form};
 
 use crate::ranges::range;
-use sqlite_items::Items;
+use sqlite_items::{Boxed, Items};
 use vod_expr::ParseFault;
 use vod_grammar::{Phrase, Reader, Word, names};
 use vod_tree::{DeclaredPort, Ident, NetPort, Ports, RegPort, Setting, Value, let_go};
@@ -119,6 +119,7 @@ fn input_port(reader: Reader<'_>, at: &mut usize, place: u32) -> Result<Declared
     ensures { Gives result (left reader.entry at.new) ((input_port place).read (left reader.entry at.old)) }
 {
     let port = net_port(reader, at, place)?;
+    let port = Boxed::new(reader.alloc, port)?;
     Ok(DeclaredPort::Input(port))
 }
 
@@ -129,9 +130,11 @@ fn output_port(reader: Reader<'_>, at: &mut usize, place: u32) -> Result<Declare
 {
     let Some(_) = reader.takes(at, Word::Reg) else {
         let port = net_port(reader, at, place)?;
+        let port = Boxed::new(reader.alloc, port)?;
         return Ok(DeclaredPort::Output(port));
     };
     let port = reg_port(reader, at, place)?;
+    let port = Boxed::new(reader.alloc, port)?;
     Ok(DeclaredPort::OutputReg(port))
 }
 

@@ -7,6 +7,6 @@ mod reader;
 mod word;
 
 pub use laws::{lists_are_exact, phrases_are_exact};
-pub use phrase::{Phrase, expressions, names, separated};
+pub use phrase::{Phrase, expressions, names, only, separated};
 pub use reader::Reader;
 pub use word::Word;

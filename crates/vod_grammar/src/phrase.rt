@@ -1,5 +1,5 @@
 //! Lists of phrases.
-ghost use Rattle.std.specs.Prelude.{List};
+ghost use Rattle.std.specs.Prelude.{◌≡◌, List, [], ◌∷◌, IfOk};
 ghost use Rattle.vod_expr.specs.Grammar.{Lexeme};
 ghost use Rattle.vod_grammar.specs.Read.{Read, separated, repeat, behind, name_read, expression_read};
 ghost use Rattle.vod_grammar.specs.State.{left, Gives, GivesAs, IsOfSource};
@@ -9,6 +9,7 @@ ghost use Rattle.vod_grammar.specs.declared.word.Word.TheVariants.{Comma};
 use crate::reader::Reader;
 use crate::word::Word;
 use sqlite_items::Items;
+use std::alloc::{AllocError, Global};
 use vod_expr::ParseFault;
 use vod_tree::{Expr, Ident};
 
@@ -37,10 +38,19 @@ where
     requires { IsOfSource reader }
     ensures { Gives result (left reader.entry at.new) (separated P.reading (left reader.entry at.old)) }
 {
-    let mut nodes = Items::new(reader.alloc);
-    nodes.push(P::read(reader, at)?)?;
+    let first = P::read(reader, at)?;
+    let mut nodes = only(reader.alloc, first)?;
     more_separated::<P>(reader, at, &mut nodes)?;
     Ok(nodes)
+}
+
+/// A list of one item, without room for more: most lists of a source have no more.
+pub fn only<T: Drop>(alloc: Global, item: T) -> Result<Items<T>, AllocError>
+    ensures { IfOk result (λ items. items ≡ item ∷ []) }
+{
+    let mut items = Vec::with_capacity(alloc, 1)?;
+    items.push(item)?;
+    Ok(Items::from_vec(items))
 }
 
 // Each further one behind its `,`.

@@ -9,7 +9,7 @@ ghost use Rattle.vod_parse.specs.ProcessesForm.{always_form, assign_form, assign
 
 use sqlite_items::Items;
 use vod_expr::ParseFault;
-use vod_grammar::{Reader, Word};
+use vod_grammar::{Reader, Word, only};
 use vod_statement::{Context, left_side, statement};
 use vod_tree::{Always, Assignment, Edge, Event, Lval, SecondEvent, Separator, let_go};
 
@@ -95,8 +95,8 @@ pub(crate) fn assignments(
     requires { IsOfSource reader }
     ensures { Gives result (left reader.entry at.new) ((assign_form (length reader.entry.tokens.now)).read (left reader.entry at.old)) }
 {
-    let mut assignments = Items::new(reader.alloc);
-    assignments.push(assignment(reader, at)?)?;
+    let first = assignment(reader, at)?;
+    let mut assignments = only(reader.alloc, first)?;
     more_assignments(reader, at, &mut assignments)?;
     reader.word(at, Word::Semicolon)?;
     Ok(assignments)

@@ -1,6 +1,6 @@
 //! Declarations of parameters, ports, nets and registers (IEEE 1364-2005, clauses 4 and 12).
 use crate::{Expr, Ident};
-use sqlite_items::Items;
+use sqlite_items::{Boxed, Items};
 
 /// `[ expr : expr ]`: the first bound and the second; its place is that of `[`.
 #[derive(Drop)]
@@ -70,9 +70,9 @@ pub struct RegPort {
 /// A port of a header that declares its ports. A further name has the kind, sign and range of the port before it (12.3.4).
 #[derive(Drop)]
 pub enum DeclaredPort {
-    Input(NetPort),
-    Output(NetPort),
-    OutputReg(RegPort),
+    Input(Boxed<NetPort>),
+    Output(Boxed<NetPort>),
+    OutputReg(Boxed<RegPort>),
     Further(Ident),
     FurtherValue(Setting),
 }
