@@ -5,3 +5,10 @@ pub mod Reads
 pub mod Source
 pub mod Lawful
 pub mod Limits
+pub mod Netlist
+pub mod Uses
+pub mod Flat
+pub mod Nets
+pub mod Functions
+pub mod Accepted
+pub mod Draft

@@ -1,6 +1,7 @@
 //! Designs: what a simulation is of.
 #![tactic(auto)]
 
+mod design;
 mod parts;
 mod read;
 mod refusal;
@@ -8,6 +9,7 @@ mod sized;
 mod statement;
 mod vector;
 
+pub use design::{Design, Draft, DriverForm, Drivers, Origins};
 pub use parts::{
     Assigns, Block, Driver, Edge, Initial, InitialAssign, InitialTarget, Input, Name, Precision,
     Ram, Scope, Signal, Unit,
