@@ -1,12 +1,11 @@
 -- What each accepted design keeps.
-use Rattle.std.specs.Prelude.{◌≡◌, ◌≢◌, ℕ, ◌+◌, ◌<◌, ◌≤◌, ◌^◌, IsTrue, Bool, true, false, List, [], ◌∷◌, ◌++◌, length, map, All, AllPairs, Option, None, Some, slice_get, slice_index_or}
+use Rattle.std.specs.Prelude.{◌≡◌, ℕ, ◌+◌, ◌<◌, ◌≤◌, ◌^◌, true, false, List, [], ◌∷◌, ◌++◌, length, All, AllPairs, Option, None, Some, slice_get, slice_index_or}
 use Rattle.std.specs.List.{Contains, Any}
 use Rattle.vod_design.specs.declared.parts.Block.{Block}
 use Rattle.vod_design.specs.declared.parts.Driver.{Driver}
 use Rattle.vod_design.specs.declared.parts.Edge.{Edge}
 use Rattle.vod_design.specs.declared.parts.InitialTarget.{InitialTarget}
 use Rattle.vod_design.specs.declared.parts.InitialTarget.TheVariants as initial
-use Rattle.vod_design.specs.declared.parts.Input.{Input}
 use Rattle.vod_design.specs.declared.refusal.Which.TheVariants as which
 use Rattle.vod_design.specs.declared.sized.Named.{Named}
 use Rattle.vod_design.specs.declared.sized.Named.TheVariants as named
@@ -128,8 +127,14 @@ pub record IsCallable (functions : List Function) (n : ℕ) (f : Function) : Typ
 -- the numbers of all drivers, each once, behind all that feed it (A15)
 pub record IsRanked (drivers : List Driver) (ranked : List ℕ) : Type 0 where
   pub each : EachOnce (λ n. n < length drivers) ranked
+  pub size : length ranked ≡ length drivers
   pub behind : (before later : List ℕ) (n m : ℕ) (p q : Driver) → ranked ≡ before ++ n ∷ later → slice_get drivers n ≡ Some q
-    → slice_get drivers m ≡ Some p → Feeds p q → Contains before m
+      → slice_get drivers m ≡ Some p → Feeds p q → Contains before m
+
+-- the place of each driver in that order, by the driver's number
+pub record AreRanks (ranked ranks : List ℕ) : Type 0 where
+  pub size : length ranks ≡ length ranked
+  pub place : (k : ℕ) → k < length ranked → slice_index_or ranks (slice_index_or ranked k 0) 0 ≡ k
 
 -- the class of an input is what blocks wait for (A13)
 abbrev pub IsWaitedFor : Netlist → Class → ℕ → Type 0

@@ -1,6 +1,5 @@
 -- What each flat design keeps, by the rules on declarations: numbers stand for parts that there are, and sizes are within limits.
-use Rattle.std.specs.Prelude.{◌≡◌, ℕ, zero, suc, ◌+◌, ◌<◌, ◌≤◌, ◌^◌, Bool, true, false, List, [], ◌∷◌, ◌++◌, length, map, All, AllPairs, ◌≢◌, Option, None, Some, slice_get}
-use Rattle.std.specs.List.{Contains, sum}
+use Rattle.std.specs.Prelude.{◌≡◌, ℕ, ◌+◌, ◌<◌, ◌≤◌, ◌^◌, List, [], length, map, All, AllPairs, ◌≢◌, Option, None, Some, slice_get}
 use Rattle.vod_bits.specs.declared.TheConstants.{WIDTH}
 use Rattle.vod_design.specs.declared.parts.Block.{Block}
 use Rattle.vod_design.specs.declared.parts.Driver.{Driver}
@@ -20,8 +19,8 @@ use Rattle.vod_design.specs.declared.statement.Place.{Place}
 use Rattle.vod_design.specs.declared.statement.Size.{Size}
 use Rattle.vod_design.specs.declared.statement.Statement.{Statement}
 use Rattle.vod_design.specs.Limits.{most}
-use Rattle.vod_design.specs.Netlist.{Netlist, signal_width, word_count, word_width, variable_widths, variable_width, named_width, IsNet, IsRegister}
-use Rattle.vod_design.specs.Uses.{Use, Whole, Bits, BitAt, Word, WordAt, Called, Inputs, Assignment, uses, exprs, assignments}
+use Rattle.vod_design.specs.Netlist.{Netlist, signal_width, word_count, word_width, words_in, variable_widths, variable_width, named_width, IsNet, IsRegister}
+use Rattle.vod_design.specs.Uses.{Use, Whole, Bits, BitAt, Word, WordAt, Called, Inputs, uses, exprs, assignments}
 
 -- a size that a value may have
 abbrev pub IsSize : ℕ → Type 0
@@ -120,7 +119,7 @@ pub record IsFlat (d : Netlist) : Type 0 where
   pub few_scopes : length d.scopes ≤ most which.Instances
   pub few_signals : length d.signals ≤ most which.Signals
   pub few_inputs : length d.inputs ≤ most which.Inputs
-  pub few_words : sum (map (λ m. m.words) d.memories) ≤ most which.Words
+  pub few_words : words_in d.memories ≤ most which.Words
   pub few_drivers : length d.drivers < 2 ^ 25
   pub few_blocks : length d.blocks < 2 ^ 25
   pub few_initials : length d.initials < 2 ^ 25

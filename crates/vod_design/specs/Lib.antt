@@ -12,3 +12,4 @@ pub mod Nets
 pub mod Functions
 pub mod Accepted
 pub mod Draft
+pub mod Image

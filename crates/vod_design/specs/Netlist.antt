@@ -1,7 +1,6 @@
 -- The parts of a flat design, each list by number, and what numbers of them stand for.
-use Rattle.std.specs.Prelude.{◌≡◌, ◌≢◌, ℕ, ◌+◌, ◌<◌, ◌≤◌, Bool, true, false, List, [], ◌∷◌, ◌++◌, length, map, flat_map, All, AllPairs, Option, None, Some, option_map, slice_get}
+use Rattle.std.specs.Prelude.{◌≡◌, ◌≢◌, ℕ, ◌+◌, true, false, List, [], ◌∷◌, ◌++◌, length, map, flat_map, All, AllPairs, Option, None, Some, option_map, slice_get}
 use Rattle.std.specs.List.{Contains}
-use Rattle.vod_bits.specs.Bit.{Bit}
 use Rattle.vod_design.specs.declared.parts.Block.{Block}
 use Rattle.vod_design.specs.declared.parts.Driver.{Driver}
 use Rattle.vod_design.specs.declared.parts.Initial.{Initial}
@@ -37,12 +36,20 @@ abbrev pub or_0 : Option ℕ → ℕ
 or_0 None = 0
 or_0 (Some n) = n
 
--- how many bits a signal has, none where there is no such signal; the words of a memory, and how many bits each has
+-- how many bits a signal has, none where there is no such signal; the words of a memory, those of several, and how many bits each
+-- has
+abbrev pub width_in : List Signal → ℕ → ℕ
+width_in signals n = or_0 (option_map (λ s. s.width) (slice_get signals n))
+
 abbrev pub signal_width : Netlist → ℕ → ℕ
-signal_width d n = or_0 (option_map (λ s. s.width) (slice_get d.signals n))
+signal_width d n = width_in d.signals n
 
 abbrev pub word_count : Netlist → ℕ → ℕ
 word_count d m = or_0 (option_map (λ r. r.words) (slice_get d.memories m))
+
+abbrev pub words_in : List Ram → ℕ
+words_in [] = 0
+words_in (m ∷ ms) = m.words + words_in ms
 
 abbrev pub word_width : Netlist → ℕ → ℕ
 word_width d m = or_0 (option_map (λ r. r.width) (slice_get d.memories m))

@@ -1,5 +1,5 @@
 -- Which driver feeds which, and the nets that clocks and resets run through.
-use Rattle.std.specs.Prelude.{◌≡◌, ◌≢◌, ℕ, ◌+◌, ◌<◌, ◌≤◌, true, false, List, [], ◌∷◌, map, Some}
+use Rattle.std.specs.Prelude.{◌≡◌, ◌≢◌, ℕ, ◌+◌, ◌<◌, ◌≤◌, true, false, [], ◌∷◌}
 use Rattle.std.specs.List.{Contains, Any}
 use Rattle.vod_design.specs.declared.parts.Driver.{Driver}
 use Rattle.vod_design.specs.declared.parts.Edge.{Edge}
@@ -18,7 +18,7 @@ use Rattle.vod_design.specs.declared.statement.Statement.{Statement}
 use Rattle.vod_design.specs.declared.statement.Statement.TheOpen.{Statement-F}
 use Rattle.vod_design.specs.declared.statement.Statement.TheViews.{roll-Statement}
 use Rattle.vod_design.specs.declared.vector.Class.{Class}
-use Rattle.vod_design.specs.declared.vector.Class.TheVariants.{Clock, Reset, Data}
+use Rattle.vod_design.specs.declared.vector.Class.TheVariants.{Data}
 use Rattle.vod_design.specs.Netlist.{Netlist}
 use Rattle.vod_design.specs.Reads.{reads}
 use Rattle.vod_design.specs.Values.{bounded}

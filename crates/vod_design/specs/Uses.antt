@@ -1,5 +1,5 @@
 -- What the nodes of expressions and statements take from elsewhere.
-use Rattle.std.specs.Prelude.{ℕ, ◌+◌, Bool, true, false, ◌&&◌, List, [], ◌∷◌, ◌++◌, length, flat_map}
+use Rattle.std.specs.Prelude.{ℕ, Bool, true, false, List, [], ◌∷◌, ◌++◌, length, flat_map}
 use Rattle.std.specs.List.{list_all}
 use Rattle.vod_design.specs.declared.sized.GateOp.{GateOp}
 use Rattle.vod_design.specs.declared.sized.Memory.{Memory}

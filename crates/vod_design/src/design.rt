@@ -1,9 +1,12 @@
 //! Flat designs: a draft of one keeps the rules on declarations, and a design all rules.
-ghost use Rattle.std.specs.Prelude.{◌≡◌};
+ghost use Rattle.std.specs.Prelude.{◌≡◌, ◌<◌, ◌^◌, length, IfOk};
+ghost use Rattle.vod_design.specs.Accepted.{AreRanks};
+ghost use Rattle.vod_design.specs.Netlist.{EachOnce};
 ghost use Rattle.vod_design.specs.Accepted.{IsAccepted};
 ghost use Rattle.vod_design.specs.Flat.{IsFlat};
 
 use crate::{Block, Driver, Function, Initial, Input, Precision, Ram, Scope, Signal};
+use std::alloc::{AllocError, Global};
 use std::marker::Model;
 
 /// What the source of a driver is.
@@ -54,7 +57,6 @@ pub struct Draft {
 impl Model for Draft {
     ghost use Rattle.vod_design.specs.Draft.{Placed, parts, placed};
     ghost use Rattle.vod_design.specs.Flat.{IsFlat};
-
     ghost use Rattle.vod_design.specs.contracts.sized.SizedKind as kinds;
     ghost use Rattle.vod_design.specs.contracts.statement.Statement as statements;
     ghost use Rattle.std.specs.Coded.{codes};
@@ -116,7 +118,6 @@ pub struct Design {
 impl Model for Design {
     ghost use Rattle.vod_design.specs.Draft.{Ordered, parts, ordered};
     ghost use Rattle.vod_design.specs.Accepted.{IsAccepted};
-
     ghost use Rattle.vod_design.specs.contracts.sized.SizedKind as kinds;
     ghost use Rattle.vod_design.specs.contracts.statement.Statement as statements;
     ghost use Rattle.std.specs.Coded.{codes};
@@ -157,4 +158,94 @@ impl Design {
     {
         self.signals.as_slice()
     }
+
+    /// The inputs of the top, in the order of its port list.
+    pub fn inputs(&self) -> &[Input]
+        ensures { result.now ≡ self.now.netlist.inputs }
+    {
+        self.inputs.as_slice()
+    }
+
+    /// The drivers, by number.
+    pub fn drivers(&self) -> &[Driver]
+        ensures { result.now ≡ self.now.netlist.drivers }
+    {
+        self.drivers.as_slice()
+    }
+
+    /// The `always` blocks, by number.
+    pub fn blocks(&self) -> &[Block]
+        ensures { result.now ≡ self.now.netlist.blocks }
+    {
+        self.blocks.as_slice()
+    }
+
+    /// The memories, by number.
+    pub fn memories(&self) -> &[Ram]
+        ensures { result.now ≡ self.now.netlist.memories }
+    {
+        self.memories.as_slice()
+    }
+
+    /// The initial items, by number.
+    pub fn initials(&self) -> &[Initial]
+        ensures { result.now ≡ self.now.netlist.initials }
+    {
+        self.initials.as_slice()
+    }
+
+    /// The instances in preorder, the top first.
+    pub fn scopes(&self) -> &[Scope]
+        ensures { result.now ≡ self.now.netlist.scopes }
+    {
+        self.scopes.as_slice()
+    }
+
+    /// The functions, by number.
+    pub fn functions(&self) -> &[Function]
+        ensures { result.now ≡ self.now.netlist.functions }
+    {
+        self.functions.as_slice()
+    }
+
+    /// The precision in which times count.
+    pub fn precision(&self) -> Precision
+        ensures { result ≡ self.now.netlist.precision }
+    {
+        self.precision
+    }
+
+    /// The numbers of all drivers, each once, behind all drivers that feed it.
+    pub fn ranked(&self) -> &[u32]
+        ensures { result.now ≡ self.now.ranked }
+    {
+        self.ranked.as_slice()
+    }
+
+    /// The place of each driver among `ranked`, by the driver's number.
+    pub fn ranks(&self, alloc: Global) -> Result<Vec<u32>, AllocError>
+        ensures { IfOk result (λ ranks. AreRanks self.now.ranked ranks.items) }
+    {
+        places_of(alloc, self.ranked.as_slice())
+    }
+
+    /// Each design keeps all rules.
+    pub fn keeps_rules(&self)
+        ensures { IsAccepted self.now.netlist self.now.ranked }
+    {
+        let _ = &self.signals;
+    }
+}
+
+// The place of each of these numbers among them, by number.
+fn places_of(alloc: Global, ranked: &[u32]) -> Result<Vec<u32>, AllocError>
+    requires each { EachOnce (λ n. n < length ranked.now) ranked.now }
+    requires few { length ranked.now < 2 ^ 25 }
+    ensures { IfOk result (λ ranks. AreRanks ranked.now ranks.items) }
+{
+    let mut ranks = vec![in alloc; 0; ranked.len()]?;
+    for (place, driver) in ranked.iter().enumerate() {
+        ranks[*driver as usize] = place as u32;
+    }
+    Ok(ranks)
 }

@@ -2,6 +2,7 @@
 #![tactic(auto)]
 
 mod design;
+mod image;
 mod parts;
 mod read;
 mod refusal;
@@ -10,6 +11,7 @@ mod statement;
 mod vector;
 
 pub use design::{Design, Draft, DriverForm, Drivers, Origins};
+pub use image::{Edges, Image, Words, blank_image_fits};
 pub use parts::{
     Assigns, Block, Driver, Edge, Initial, InitialAssign, InitialTarget, Input, Name, Precision,
     Ram, Scope, Signal, Unit,
