@@ -20,11 +20,12 @@ use Rattle.vod_design.specs.declared.statement.Place.{Place}
 use Rattle.vod_design.specs.declared.statement.Statement.{Statement}
 use Rattle.vod_design.specs.declared.vector.Class.{Class}
 use Rattle.vod_design.specs.declared.vector.Class.TheVariants.{Clock, Reset, Data}
+use Rattle.vod_design.specs.Feeds.{feeds}
 use Rattle.vod_design.specs.Flat.{IsFlat}
 use Rattle.vod_design.specs.Functions.{function_checked, called_by, depth_of}
 use Rattle.vod_design.specs.Limits.{most}
 use Rattle.vod_design.specs.Netlist.{Netlist, EachOnce, signal_width, word_count, variable_widths, variable_width, named_width, IsNet, IsRegister, IsInput, initial_targets, driven_bits}
-use Rattle.vod_design.specs.Nets.{Feeds, ReadsNet, Copies, Follows, FollowsClass, IsEdgeNet, Resets}
+use Rattle.vod_design.specs.Nets.{ReadsNet, Copies, Follows, FollowsClass, IsEdgeNet, Resets}
 use Rattle.vod_design.specs.Uses.{Use, Whole, Bits, BitAt, Word, WordAt, Called, Inputs, IndexSize, Written, uses, exprs, assignments, is_plain, written_by}
 
 -- each value that an index may have is inside: it is unsigned, and there are as many bits or words as it has values (A5)
@@ -128,8 +129,7 @@ pub record IsCallable (functions : List Function) (n : ℕ) (f : Function) : Typ
 pub record IsRanked (drivers : List Driver) (ranked : List ℕ) : Type 0 where
   pub each : EachOnce (λ n. n < length drivers) ranked
   pub size : length ranked ≡ length drivers
-  pub behind : (before later : List ℕ) (n m : ℕ) (p q : Driver) → ranked ≡ before ++ n ∷ later → slice_get drivers n ≡ Some q
-      → slice_get drivers m ≡ Some p → Feeds p q → Contains before m
+  pub behind : (before later : List ℕ) (p q : ℕ) → ranked ≡ before ++ q ∷ later → feeds drivers p q ≡ true → Contains before p
 
 -- the place of each driver in that order, by the driver's number
 pub record AreRanks (ranked ranks : List ℕ) : Type 0 where

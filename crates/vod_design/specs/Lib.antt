@@ -8,6 +8,7 @@ pub mod Limits
 pub mod Netlist
 pub mod Uses
 pub mod Flat
+pub mod Feeds
 pub mod Nets
 pub mod Functions
 pub mod Accepted
