@@ -36,11 +36,23 @@ use Rattle.vod_design.specs.Netlist.{Netlist}
 abbrev pub signal : List ℕ → Bool → Signal
 signal name register = record { name = name; scope = 0; width = 1; lsb = 0; ranged = false; register = register }
 
+abbrev pub clk : Signal
+clk = signal (99 ∷ 108 ∷ 107 ∷ []) false
+
+abbrev pub q : Signal
+q = signal (113 ∷ []) false
+
+abbrev pub r : Signal
+r = signal (114 ∷ []) true
+
 abbrev pub signals : List Signal
-signals = signal (99 ∷ 108 ∷ 107 ∷ []) false ∷ signal (113 ∷ []) false ∷ signal (114 ∷ []) true ∷ []
+signals = clk ∷ q ∷ r ∷ []
+
+abbrev pub clock : Input
+clock = record { signal = 0; class = class.Clock }
 
 abbrev pub inputs : List Input
-inputs = record { signal = 0; class = class.Clock } ∷ []
+inputs = clock ∷ []
 
 -- the whole of a variable of one bit
 abbrev pub whole : Variable → SizedExpr
@@ -49,8 +61,11 @@ whole x = roll-SizedExpr (record { place = 0; width = 1; signed = false; kind = 
 abbrev pub bit : ℕ → Place
 bit n = record { signal = n; bit = 0 }
 
+abbrev pub shown : Driver
+shown = record { target = bit 1 ∷ []; value = whole (variable.Signal 2); place = 0 }
+
 abbrev pub drivers : List Driver
-drivers = record { target = bit 1 ∷ []; value = whole (variable.Signal 2); place = 0 } ∷ []
+drivers = shown ∷ []
 
 -- one variable of one bit takes the value of another
 abbrev pub part_of : Variable → Part
@@ -59,11 +74,17 @@ part_of to = record { place = 0; low = 0; width = 1; target = part.Bits to 0 }
 abbrev pub copy : Variable → Variable → Statement
 copy from to = roll-Statement (Statement-F.Assign (part_of to ∷ []) (whole from))
 
+abbrev pub kept : Block
+kept = record { clock = record { signal = 0; rising = true }; reset = None; body = copy (variable.Signal 2) (variable.Signal 2) }
+
 abbrev pub blocks : List Block
-blocks = record { clock = record { signal = 0; rising = true }; reset = None; body = copy (variable.Signal 2) (variable.Signal 2) } ∷ []
+blocks = kept ∷ []
+
+abbrev pub m : Ram
+m = record { name = 109 ∷ []; scope = 0; width = 1; low = 0; words = 1 }
 
 abbrev pub memories : List Ram
-memories = record { name = 109 ∷ []; scope = 0; width = 1; low = 0; words = 1 } ∷ []
+memories = m ∷ []
 
 abbrev pub initial_of : InitialTarget → Bit → Initial
 initial_of target bit = record { assigns = record { target = target; value = bit ∷ [] } ∷ [] }
@@ -74,11 +95,14 @@ initials = initial_of (initial.Register 2) B0 ∷ initial_of (initial.Word 0 0) 
 abbrev pub scopes : List Scope
 scopes = record { name = 116 ∷ []; parent = None } ∷ []
 
+abbrev pub bit_size : Size
+bit_size = record { width = 1; signed = false }
+
+abbrev pub same : Function
+same = record { scope = 0; width = 1; signed = false; inputs = bit_size ∷ []; locals = []; body = copy (variable.Local 0) (variable.Local 1) }
+
 abbrev pub functions : List Function
-functions = record {
-  scope = 0; width = 1; signed = false; inputs = record { width = 1; signed = false } ∷ []; locals = [];
-  body = copy (variable.Local 0) (variable.Local 1)
-} ∷ []
+functions = same ∷ []
 
 abbrev pub precision : Precision
 precision = record { count = 1; unit = unit.Ns }
