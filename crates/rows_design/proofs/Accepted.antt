@@ -54,8 +54,8 @@ copy_fits : (locals : List ℕ) (from to : Variable) → 1 ≤ variable_width d 
 copy_fits locals from to there here = record {
   exprs = subst (All (ExprFits d locals)) (sym (exprs_copy from to)) (all_one (ExprFits d locals) (small.whole from) (whole_fits locals from there));
   parts =
-    let fits : PartFits d locals (small.whole from) (small.part_of to) = record { size = one_bit; inside = omega arith; target = here } in
-    subst (All (λ (a : Assignment). All (PartFits d locals a.right) a.parts)) (sym (assignments_copy from to))
+      let fits : PartFits d locals (small.whole from) (small.part_of to) = record { size = one_bit; inside = omega arith; target = here } in
+      subst (All (λ (a : Assignment). All (PartFits d locals a.right) a.parts)) (sym (assignments_copy from to))
       (all_one (λ (a : Assignment). All (PartFits d locals a.right) a.parts) (assignment from to) (all_one (PartFits d locals (small.whole from)) (small.part_of to) fits));
 }
 
@@ -140,7 +140,7 @@ copy_inside : (locals : List ℕ) (from to : Variable) → IndicesInside d local
 copy_inside locals from to = record {
   exprs = subst (All (NoIndex locals)) (sym (exprs_copy from to)) (all_one (NoIndex locals) (small.whole from) (whole_inside locals from));
   parts = subst (All (PartsInside locals)) (sym (assignments_copy from to))
-    (all_one (PartsInside locals) (assignment from to) (all_one (λ (p : Part). PartInside d locals p.target) (small.part_of to) tt));
+      (all_one (PartsInside locals) (assignment from to) (all_one (λ (p : Part). PartInside d locals p.target) (small.part_of to) tt));
 }
 
 abbrev Writes : Assignment → Type 0
@@ -148,7 +148,7 @@ Writes a = All (λ (p : Part). WritesState d p.target) a.parts
 
 register_written : All Writes (assignments (small.copy (variable.Signal 2) (variable.Signal 2)))
 register_written = subst (All Writes) (sym (assignments_copy (variable.Signal 2) (variable.Signal 2)))
-  (all_one Writes (assignment (variable.Signal 2) (variable.Signal 2)) (all_one (λ (p : Part). WritesState d p.target) (small.part_of (variable.Signal 2)) refl))
+    (all_one Writes (assignment (variable.Signal 2) (variable.Signal 2)) (all_one (λ (p : Part). WritesState d p.target) (small.part_of (variable.Signal 2)) refl))
 
 -- a number that is in a list of one
 only_one : {A : Type 0} (x y : A) → Contains (x ∷ []) y → x ≡ y
@@ -177,7 +177,6 @@ q_driven = record {
   only = all_one (IsToDrive d) (small.bit 1) (record { net = refl; free = λ at. absurd (zero_is 0 1 refl refl (only_one 0 1 at)); inside = omega arith });
   once = λ i j e lt within. absurd (omega arith);
 }
-
 
 -- what is to begin: the register and the word
 abbrev begins : List InitialTarget
@@ -284,7 +283,7 @@ callable (suc n) f e = absurd (cc)
 no_feed : (p q : ℕ) → feeds d.drivers p q ≡ true → ⊥
 no_feed zero zero e =
     let reading : meets small.shown small.shown ≡ (list_any (is_read (small.bit 1)) (read.Whole 2 ∷ []) || false) =
-      ap (λ (rs : List Read). list_any (is_read (small.bit 1)) rs || false) (reads_whole (variable.Signal 2)) in
+    ap (λ (rs : List Read). list_any (is_read (small.bit 1)) rs || false) (reads_whole (variable.Signal 2)) in
     cc
 no_feed zero (suc q) e = absurd (cc)
 no_feed (suc p) zero e = absurd (cc)

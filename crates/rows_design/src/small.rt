@@ -192,3 +192,59 @@ fn functions(alloc: Global) -> Result<Vec<Function>, AllocError>
         },
     )
 }
+
+/// Where its parts stand in a source.
+fn origins(alloc: Global) -> Result<Origins, AllocError> {
+    let signals = Vec::from_slice(alloc, &[16, 28, 35])?;
+    let memories = one(alloc, 46)?;
+    let functions = one(alloc, 60)?;
+    let blocks = one(alloc, 80)?;
+    let drivers = one(alloc, DriverForm::Assign)?;
+    Ok(Origins {
+        signals,
+        memories,
+        functions,
+        blocks,
+        drivers,
+    })
+}
+
+/// The design as it is before it is judged.
+pub fn draft(alloc: Global) -> Result<Draft, AllocError>
+    ensures { IfOk result (λ d. d.netlist ≡ small) }
+{
+    let signals = signals(alloc)?;
+    let inputs = inputs(alloc)?;
+    let memories = memories(alloc)?;
+    let initials = initials(alloc)?;
+    let scopes = scopes(alloc)?;
+    let origins = origins(alloc)?;
+    let drivers = drivers(alloc)?;
+    let blocks = blocks(alloc)?;
+    let functions = functions(alloc)?;
+    let precision = Precision {
+        count: 1,
+        unit: Unit::Ns,
+    };
+    Ok(Draft {
+        signals,
+        inputs,
+        drivers,
+        blocks,
+        memories,
+        initials,
+        scopes,
+        functions,
+        precision,
+        origins,
+    })
+}
+
+/// The design.
+pub fn design(alloc: Global) -> Result<Design, AllocError>
+    ensures { IfOk result (λ d. d.netlist ≡ small) }
+{
+    let ranked = one(alloc, 0)?;
+    let draft = draft(alloc)?;
+    Ok(Design::of(draft, Drivers::new(ranked)))
+}
