@@ -1,9 +1,8 @@
 -- The small design keeps all rules.
-use Rattle.std.proofs.Common.{◌≡◌, ◌≢◌, ◌⊎◌, ℕ, zero, suc, ◌+◌, ◌<◌, ◌≤◌, Bool, true, false, List, [], ◌∷◌, ◌++◌, length, map, flat_map, slice_get, slice_index_or, Option, None, Some, refl, sym, subst, ◌∙◌, ap, arith, All, AllPairs, inl, inr}
+use Rattle.std.proofs.Common.{◌≡◌, ◌≢◌, ℕ, zero, suc, ◌<◌, ◌≤◌, Bool, true, false, List, [], ◌∷◌, ◌++◌, length, map, flat_map, slice_get, slice_index_or, Option, None, Some, refl, sym, subst, ◌∙◌, ap, arith, All}
 use Rattle.std.proofs.lemmas.List.Elements.{All-nil, All-cons}
 use Rattle.std.specs.List.{Contains, Any}
 use Rattle.vod_bits.specs.Bit.{B0, B1}
-use Rattle.vod_bits.specs.declared.TheConstants.{WIDTH}
 use Rattle.vod_design.specs.declared.parts.Block.{Block}
 use Rattle.vod_design.specs.declared.parts.Driver.{Driver}
 use Rattle.vod_design.specs.declared.parts.InitialAssign.{InitialAssign}
@@ -11,8 +10,6 @@ use Rattle.vod_design.specs.declared.parts.InitialTarget.{InitialTarget}
 use Rattle.vod_design.specs.declared.parts.InitialTarget.TheVariants as initial
 use Rattle.vod_design.specs.declared.parts.Initial.{Initial}
 use Rattle.vod_design.specs.declared.parts.Input.{Input}
-use Rattle.vod_design.specs.declared.parts.Ram.{Ram}
-use Rattle.vod_design.specs.declared.parts.Signal.{Signal}
 use Rattle.vod_design.specs.declared.sized.Named.TheVariants as named
 use Rattle.vod_design.specs.declared.sized.SizedExpr.{SizedExpr}
 use Rattle.vod_design.specs.declared.sized.Variable.{Variable}
@@ -20,7 +17,7 @@ use Rattle.vod_design.specs.declared.sized.Variable.TheVariants as variable
 use Rattle.vod_design.specs.declared.statement.Function.{Function}
 use Rattle.vod_design.specs.declared.statement.Part.{Part}
 use Rattle.vod_design.specs.declared.statement.Place.{Place}
-use Rattle.vod_design.specs.declared.vector.Class.TheVariants.{Clock, Reset, Data}
+use Rattle.vod_design.specs.declared.vector.Class.TheVariants.{Clock}
 use Rattle.vod_design.specs.Flat.{IsFlat, IsSize, SignalFits, MemoryFits, ParentFits, UseFits, ExprFits, PartFits, StatementFits, BitFits, DriverFits, BlockFits, FunctionFits, SizeFits, InitialFits}
 use Rattle.std.specs.List.{list_all, list_any}
 use Rattle.std.proofs.Common.{◌&&◌, ◌||◌}
@@ -28,13 +25,11 @@ use Rattle.vod_design.specs.Feeds.{feeds, meets, is_read}
 use Rattle.vod_design.specs.Functions.{Checked, checked, function_checked, assigned_at_entry, may_read, has_use, called_by, use_called, deepest, depth_of, depth_below}
 use Rattle.vod_design.specs.Uses.{Use}
 use Rattle.vod_design.specs.Accepted.{IsCallable, IsRanked, IsQuiet, IsWaitedFor, BlockRuns, IndexInside, PartInside, IndicesInside, WritesState, IsToDrive, IsToBegin, IsAccepted}
-use Rattle.vod_design.specs.Netlist.{Netlist, IsNet, IsInput, IsRegister, word_count, initial_targets, signal_width, driven_bits, EachOnce, variable_width, variable_widths, named_width}
-use Rattle.vod_design.specs.declared.sized.SizedKind.{SizedKind}
-use Rattle.vod_design.specs.declared.sized.SizedKind.TheViews.{out-SizedKind}
+use Rattle.vod_design.specs.Netlist.{Netlist, IsNet, IsInput, IsRegister, word_count, initial_targets, signal_width, driven_bits, EachOnce, variable_width, variable_widths}
 use Rattle.vod_design.specs.declared.read.Read.{Read}
 use Rattle.vod_design.specs.declared.read.Read.TheVariants as read
-use Rattle.vod_design.specs.Nets.{Touches, name_of, IsBit, Copies, Follows, FollowsClass, IsEdgeNet, ReadsNet}
-use Rattle.vod_design.specs.Uses.{Whole, Assignment, uses, exprs, assignments}
+use Rattle.vod_design.specs.Nets.{Touches, name_of, Copies, Follows, FollowsClass, IsEdgeNet, ReadsNet}
+use Rattle.vod_design.specs.Uses.{Whole, Assignment, uses, assignments}
 use Rattle.rows_design.specs.Small as small
 use Rattle.rows_design.proofs.Exprs.{seen_whole, reads_whole, exprs_copy, assignment, assignments_copy, checked_copy, name_reads, name_read, all_one}
 

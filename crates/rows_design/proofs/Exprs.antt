@@ -1,19 +1,16 @@
 -- What the expressions and statements of the small design use.
-use Rattle.std.proofs.Common.{◌≡◌, ℕ, zero, suc, ◌<◌, ◌≤◌, Bool, true, false, List, [], ◌∷◌, ◌++◌, length, refl, sym, ◌∙◌, ap, arith, All}
+use Rattle.std.proofs.Common.{◌≡◌, ℕ, false, List, [], ◌∷◌, ◌∙◌, ap, All}
 use Rattle.std.proofs.lemmas.List.Elements.{All-nil, All-cons}
-use Rattle.vod_bits.specs.Bit.{Bit}
 use Rattle.vod_design.specs.declared.read.Read.{Read}
 use Rattle.vod_design.specs.declared.sized.Named.TheVariants as named
 use Rattle.vod_design.specs.declared.sized.SizedExpr.{SizedExpr}
 use Rattle.vod_design.specs.declared.sized.SizedKind.{SizedKind}
 use Rattle.vod_design.specs.declared.sized.SizedKind.TheOpen.{SizedKind-F, SizedExpr-F}
 use Rattle.vod_design.specs.declared.sized.SizedKind.TheFolds.{fold-SizedKind, fold-roll-SizedKind, fold-roll-SizedExpr}
-use Rattle.vod_design.specs.declared.sized.SizedKind.TheViews.{roll-SizedKind, roll-SizedExpr}
+use Rattle.vod_design.specs.declared.sized.SizedKind.TheViews.{roll-SizedKind}
 use Rattle.vod_design.specs.declared.sized.Variable.{Variable}
-use Rattle.vod_design.specs.declared.statement.Statement.{Statement}
 use Rattle.vod_design.specs.declared.statement.Statement.TheOpen.{Statement-F}
 use Rattle.vod_design.specs.declared.statement.Statement.TheFolds.{fold-roll-Statement}
-use Rattle.vod_design.specs.declared.statement.Statement.TheViews.{roll-Statement}
 use Rattle.vod_design.specs.Functions.{Assigned, Checked, layer_checked, item_checked, statement_checked}
 use Rattle.vod_design.specs.Reads.{reads, kind_reads, whole}
 use Rattle.vod_design.specs.declared.read.Read.TheVariants as read

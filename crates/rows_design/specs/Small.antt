@@ -1,11 +1,9 @@
 -- The parts of a small design.
-use Rattle.std.specs.Prelude.{ℕ, zero, suc, Bool, true, false, List, [], ◌∷◌, Option, None, Some}
+use Rattle.std.specs.Prelude.{ℕ, Bool, true, false, List, [], ◌∷◌, None}
 use Rattle.vod_bits.specs.Bit.{Bit, B0, B1}
 use Rattle.vod_design.specs.declared.parts.Block.{Block}
 use Rattle.vod_design.specs.declared.parts.Driver.{Driver}
-use Rattle.vod_design.specs.declared.parts.Edge.{Edge}
 use Rattle.vod_design.specs.declared.parts.Initial.{Initial}
-use Rattle.vod_design.specs.declared.parts.InitialAssign.{InitialAssign}
 use Rattle.vod_design.specs.declared.parts.InitialTarget.{InitialTarget}
 use Rattle.vod_design.specs.declared.parts.InitialTarget.TheVariants as initial
 use Rattle.vod_design.specs.declared.parts.Input.{Input}
