@@ -94,13 +94,13 @@ lower_slice n xs h =
     let len : length (drop (length xs - n) xs) ≤ n = omega (arith, length-drop (length xs - n) xs) in
     rw e (take_all n (drop (length xs - n) xs) len)
 
-pub select_inside : (low width : ℕ) (xs : List Bit) → low + width ≤ length xs → select_bits low width xs ≡ slice_bits low width xs
+pub select_inside : (fill : Bit) (low width : ℕ) (xs : List Bit) → low + width ≤ length xs → select_bits fill low width xs ≡ slice_bits low width xs
 unfolding select_bits
-select_inside low width xs h = grind (arith)
+select_inside fill low width xs h = grind (arith)
 
-pub select_outside : (low width : ℕ) (xs : List Bit) → length xs < low + width → select_bits low width xs ≡ unknown width
+pub select_outside : (fill : Bit) (low width : ℕ) (xs : List Bit) → length xs < low + width → select_bits fill low width xs ≡ unknown fill width
 unfolding select_bits
-select_outside low width xs h = grind (arith)
+select_outside fill low width xs h = grind (arith)
 
 pub replace_inside : (low : ℕ) (new old : List Bit) → low + length new ≤ length old → replace_bits low new old ≡ take (length old - (low + length new)) old ++ new ++ drop (length old - low) old
 unfolding replace_bits

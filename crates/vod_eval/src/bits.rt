@@ -84,7 +84,7 @@ pub fn unknown_bit() -> Four
 // A value of x alone, at a size.
 #[tactic(auto, using(crate::proofs::Cuts::stretch_x))]
 pub fn unknown(width: u8) -> Four
-    ensures { result ≡ unknown (bounded width) }
+    ensures { result ≡ unknown BX (bounded width) }
 {
     unknown_bit().resize(bounded(width), true)
 }
@@ -92,7 +92,7 @@ pub fn unknown(width: u8) -> Four
 // Bits from a place up, x where they aren't inside.
 #[tactic(auto, using(crate::proofs::Cuts::select_inside, crate::proofs::Cuts::select_outside))]
 pub fn select(value: Four, low: u8, count: u8) -> Four
-    ensures { result ≡ select_bits low (bounded count) value }
+    ensures { result ≡ select_bits BX low (bounded count) value }
 {
     let count = bounded(count);
     if u16::from(low) + u16::from(count) <= u16::from(width(value)) {
@@ -112,7 +112,7 @@ pub fn index_place(least: u16, index: Four) -> Option<Word>
 
 // The bit at a place.
 pub fn bit_at_place(value: Four, place: Option<Word>) -> Four
-    ensures { result ≡ bit_at_place value place }
+    ensures { result ≡ bit_at_place BX value place }
 {
     match place {
         None => unknown_bit(),
@@ -123,7 +123,7 @@ pub fn bit_at_place(value: Four, place: Option<Word>) -> Four
 // The bit from a place up.
 #[tactic(auto, using(crate::proofs::Cuts::select_outside))]
 fn bit_from(value: Four, place: Word) -> Four
-    ensures { result ≡ select_bits place 1 value }
+    ensures { result ≡ select_bits BX place 1 value }
 {
     if place < Word::from(width(value)) {
         select(value, place as u8, 1)

@@ -1,6 +1,6 @@
 //! Expressions, calls and statements.
 ghost use Rattle.std.specs.Prelude.{◌≡◌, ◌+◌, ◌≤◌, map, flat_map, take, drop, length, [], ◌∷◌, ◌++◌, MatchOption, Some, None, option_map, slice_set};
-ghost use Rattle.vod_bits.specs.Bit.{is_1};
+ghost use Rattle.vod_bits.specs.Bit.{BX, is_1};
 ghost use Rattle.vod_four.specs.Four.{truth_bit};
 ghost use Rattle.vod_design.specs.Values.{at_size, bounded, value_at, variable_bits, named_bits, word_or_x, word_at};
 ghost use Rattle.vod_design.specs.Run.{eval, in_turn, entered, frame_of, first_branch, has_label, assigned, written, target_of, at_index, replace_bits};
@@ -35,7 +35,7 @@ pub fn value_of(
     room: &mut [Four],
 ) -> Four
     requires { room_of functions.now expr.now ≤ length room.old }
-    ensures { result ≡ eval functions.now (values_of signals.now memories.now) [] expr.now }
+    ensures { result ≡ eval BX functions.now (values_of BX signals.now memories.now) [] expr.now }
 {
     let scene = Scene {
         functions,
@@ -58,14 +58,14 @@ pub struct Scene<'v> {
 
 // The value at a place of a list, x where there is none.
 fn value_at(values: &[Four], n: usize) -> Four
-    ensures { result ≡ value_at values.now n }
+    ensures { result ≡ value_at BX values.now n }
 {
     values.get(n).copied().unwrap_or(unknown_bit())
 }
 
 // The value of a variable.
 fn variable(scene: &Scene<'_>, frame: &[Four], variable: Variable) -> Four
-    ensures { result ≡ variable_bits (scene_values scene.now) frame.now variable }
+    ensures { result ≡ variable_bits BX (scene_values scene.now) frame.now variable }
 {
     match variable {
         Variable::Signal(n) => value_at(scene.signals, n as usize),
@@ -75,7 +75,7 @@ fn variable(scene: &Scene<'_>, frame: &[Four], variable: Variable) -> Four
 
 // The value of a name.
 fn named(scene: &Scene<'_>, frame: &[Four], name: Named) -> Four
-    ensures { result ≡ named_bits (scene_values scene.now) frame.now name }
+    ensures { result ≡ named_bits BX (scene_values scene.now) frame.now name }
 {
     match name {
         Named::Variable(x) => variable(scene, frame, x),
@@ -85,7 +85,7 @@ fn named(scene: &Scene<'_>, frame: &[Four], name: Named) -> Four
 
 // A memory word, x in each bit where there is none.
 fn word(scene: &Scene<'_>, memory: Memory, place: Option<Word>) -> Four
-    ensures { result ≡ word_or_x (bounded memory.width) (word_at (scene_values scene.now) memory.number place) }
+    ensures { result ≡ word_or_x BX (bounded memory.width) (word_at (scene_values scene.now) memory.number place) }
 {
     let Some(place) = place else {
         return unknown(memory.width);
@@ -201,7 +201,7 @@ fn folded(
     room: &mut [Four],
 ) -> Four
     requires { most (map (expr_room (rooms scene.now)) inputs.now) ≤ length room.old }
-    ensures { result ≡ fold_inputs (gate_table op) (gate_start op) (flat_map (input_in scene.now frame.now) inputs.now) ∷ [] }
+    ensures { result ≡ fold_inputs (gate_table op) (gate_start BX op) (flat_map (input_in scene.now frame.now) inputs.now) ∷ [] }
 {
     let mut so_far = ops::gate_start(op);
     for input in inputs {
@@ -267,7 +267,7 @@ fn values(scene: &Scene<'_>, frame: &[Four], exprs: &[SizedExpr], room: &mut [Fo
 fn enter(function: &Function, arguments: &[SizedExpr], room: &mut [Four])
     requires arguments { length arguments.now ≤ length room.old }
     requires variables { length function.now.inputs + length function.now.locals + 1 ≤ length room.old }
-    ensures { take (length function.now.inputs + length function.now.locals + 1) room.new ≡ frame_of function.now (with_signs (take (length arguments.now) room.old) arguments.now) }
+    ensures { take (length function.now.inputs + length function.now.locals + 1) room.new ≡ frame_of BX function.now (with_signs (take (length arguments.now) room.old) arguments.now) }
 {
     let inputs = function.inputs.as_slice();
     let locals = function.locals.as_slice();
@@ -280,7 +280,7 @@ fn enter(function: &Function, arguments: &[SizedExpr], room: &mut [Four])
 fn take_arguments(inputs: &[Size], arguments: &[SizedExpr], room: &mut [Four])
     requires arguments { length arguments.now ≤ length room.old }
     requires inputs { length inputs.now ≤ length room.old }
-    ensures { room.new ≡ entered inputs.now (with_signs (take (length arguments.now) room.old) arguments.now) ++ drop (length inputs.now) room.old }
+    ensures { room.new ≡ entered BX inputs.now (with_signs (take (length arguments.now) room.old) arguments.now) ++ drop (length inputs.now) room.old }
 {
     for (i, input) in inputs.iter().enumerate() {
         room[i] = input_value(input, room[i], at(arguments, i));
@@ -289,7 +289,7 @@ fn take_arguments(inputs: &[Size], arguments: &[SizedExpr], room: &mut [Four])
 
 // The value of an input, given the value of its argument.
 fn input_value(input: &Size, value: Four, argument: Option<&SizedExpr>) -> Four
-    ensures { result ≡ input_bits input.now (option_map (λ e. operand value e.now.signed) argument.entry) }
+    ensures { result ≡ input_bits BX input.now (option_map (λ e. operand value e.now.signed) argument.entry) }
 {
     match argument {
         Some(argument) => at_size(value, input.width, argument.signed),
@@ -300,7 +300,7 @@ fn input_value(input: &Size, value: Four, argument: Option<&SizedExpr>) -> Four
 // Starts locals at x.
 fn clear(locals: &[Size], variables: &mut [Four])
     requires { length locals.now ≤ length variables.old }
-    ensures { variables.new ≡ map unknown_of locals.now ++ drop (length locals.now) variables.old }
+    ensures { variables.new ≡ map (unknown_of BX) locals.now ++ drop (length locals.now) variables.old }
 {
     for (i, local) in locals.iter().enumerate() {
         variables[i] = unknown(local.width);
@@ -430,7 +430,7 @@ fn part_index(scene: &Scene<'_>, frame: &[Four], part: &Part, room: &mut [Four])
 // Writes a value to the parts of a left side, from the left, whose indices have these values.
 fn assign(parts: &[Part], value: Four, frame: &mut [Four], indices: &[Four])
     requires { length parts.now ≤ length indices.now }
-    ensures { frame.new ≡ assigned parts.now indices.now value frame.old }
+    ensures { frame.new ≡ assigned BX parts.now indices.now value frame.old }
 {
     for (i, part) in parts.iter().enumerate() {
         write(part, indices[i], select(value, part.low, part.width), frame);
@@ -439,7 +439,7 @@ fn assign(parts: &[Part], value: Four, frame: &mut [Four], indices: &[Four])
 
 // Writes bits to the place of a part: a function has no places but its own variables.
 fn write(part: &Part, index: Four, bits: Four, frame: &mut [Four])
-    ensures { frame.new ≡ written (target_of part.now.target index) bits frame.old }
+    ensures { frame.new ≡ written BX (target_of part.now.target index) bits frame.old }
 {
     match &part.target {
         PartTarget::Bits(variable, low) => put(frame, *variable, Some(Word::from(*low)), bits),
@@ -452,7 +452,7 @@ fn write(part: &Part, index: Four, bits: Four, frame: &mut [Four])
 
 // Replaces bits of a variable from a place up, where there is one.
 fn put(frame: &mut [Four], variable: Variable, low: Option<Word>, bits: Four)
-    ensures { frame.new ≡ written (at_index (Bits variable) low) bits frame.old }
+    ensures { frame.new ≡ written BX (at_index (Bits variable) low) bits frame.old }
 {
     if let (Variable::Local(n), Some(low)) = (variable, low) {
         replace(frame, n as usize, low, bits);
@@ -462,7 +462,7 @@ fn put(frame: &mut [Four], variable: Variable, low: Option<Word>, bits: Four)
 // Replaces bits of a value of the frame from a place up.
 #[tactic(auto, using(std::proofs::lemmas::List::set_past))]
 fn replace(frame: &mut [Four], n: usize, low: Word, bits: Four)
-    ensures { frame.new ≡ slice_set frame.old n (replace_bits low bits (value_at frame.old n)) }
+    ensures { frame.new ≡ slice_set frame.old n (replace_bits low bits (value_at BX frame.old n)) }
 {
     if n < frame.len() {
         frame[n] = replaced(frame[n], low, bits);

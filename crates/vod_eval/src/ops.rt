@@ -1,7 +1,7 @@
 //! The operators on values.
 ghost use Rattle.std.specs.Prelude.{◌≡◌, ◌∷◌, [], ◌&&◌, length};
 ghost use Rattle.vod_design.specs.Eval.{unary_bits, binary_bits, less, identical_bit, comparison_bit, compared, logical_bit, reduction_bit, shift_bits};
-ghost use Rattle.vod_bits.specs.Bit.{is_1};
+ghost use Rattle.vod_bits.specs.Bit.{BX, is_1};
 ghost use Rattle.vod_bits.specs.Value.{upper_bit};
 ghost use Rattle.vod_design.specs.Values.{at_size};
 ghost use Rattle.vod_four.specs.Four.{truth_bit};
@@ -142,7 +142,7 @@ pub fn is_identical(size: Size, a: Four, b: Four) -> bool
 
 // What a gate begins with, before its first input.
 pub fn gate_start(op: GateOp) -> Four
-    ensures { result ≡ gate_start op ∷ [] }
+    ensures { result ≡ gate_start BX op ∷ [] }
 {
     match op {
         GateOp::And => one(),

@@ -17,7 +17,7 @@ use Rattle.vod_design.specs.declared.statement.Statement.{Statement}
 use Rattle.std.proofs.Common.{List, ◌++◌, ◌∷◌, [], ◌*◌, true, false, cond, length-append, Some}
 use Rattle.vod_four.specs.Four.{truth_bit}
 use Rattle.std.specs.List.{list_any}
-use Rattle.vod_bits.specs.Bit.{is_1}
+use Rattle.vod_bits.specs.Bit.{BX, is_1}
 use Rattle.vod_design.specs.declared.statement.Statement.TheOpen.{Statement-F}
 use Rattle.vod_design.specs.declared.statement.Statement.TheVariants.{rolls-Assign, rolls-If, rolls-Case, rolls-Begin, rolls-Empty}
 use Rattle.vod_design.specs.Values.{Frame, Operand, at_size, bounded, word_or_x, word_at}
@@ -34,8 +34,8 @@ use Rattle.vod_eval.proofs.eval.+eval.Goals as goal
 
 pub call-returns-in_default : goal.call-returns-in_default
 call-returns-in_default t c =
-    c.unknown_bit.ensures ∙ sym (calls_at c.args.scene.now.functions.now c.args.scene.now.limit c.args.n (map (operand_in c.args.scene.now c.args.frame.now) c.args.arguments.now)
-    ∙ ap (λ o. result_of (call_below c.args.scene.now.functions.now c.args.n) o (map (operand_in c.args.scene.now c.args.frame.now) c.args.arguments.now)) c.in_default.ensures)
+    c.unknown_bit.ensures ∙ sym (calls_at BX c.args.scene.now.functions.now c.args.scene.now.limit c.args.n (map (operand_in c.args.scene.now c.args.frame.now) c.args.arguments.now)
+    ∙ ap (λ o. result_of BX (call_below BX c.args.scene.now.functions.now c.args.n) o (map (operand_in c.args.scene.now c.args.frame.now) c.args.arguments.now)) c.in_default.ensures)
 
 pub call-enter-requires-clause-variables : goal.call-enter-requires-clause-variables
 call-enter-requires-clause-variables t c =
@@ -62,11 +62,11 @@ call-returns t c =
     let locals : length c.as_slice-2.result.now ≡ length c.in-Some.function.now.locals = ap length c.as_slice-2.ensures in
     let count : length c.as_slice.result.now + length c.as_slice-2.result.now ≡ length c.in-Some.function.now.inputs + length c.in-Some.function.now.locals = omega arith in
     let signs : with_signs (take (length c.args.arguments.now) c.values.new.room) c.args.arguments.now ≡ args
-    = ap (λ vs. with_signs vs c.args.arguments.now) c.values.ensures ∙ signs_back (calls_of c.args.scene.now) (scene_values c.args.scene.now) c.args.frame.now c.args.arguments.now in
-    let entry : c.split_at_mut-variables.result.0.now ≡ frame_of c.in-Some.function.now args
-    = c.split_at_mut-variables.ensures.front ∙ ap (λ k. take (k + 1) c.enter.new.room) count ∙ c.enter.ensures ∙ ap (frame_of c.in-Some.function.now) signs in
-    call_value c.args.scene.now.functions.now c.args.scene.now.limit c.args.n args c.in-Some.function.now c.run.new.frame c.split_at_mut-variables.result.0.now (length c.as_slice.result.now + length c.as_slice-2.result.now) c.index-variables-result.result
-    c.in-Some.ensures entry (c.run.ensures ∙ ap (λ s. run (call_below c.args.scene.now.functions.now c.args.n) nothing s c.split_at_mut-variables.result.0.now) c.statement.ensures) count c.index-variables-result.is
+    = ap (λ vs. with_signs vs c.args.arguments.now) c.values.ensures ∙ signs_back BX (calls_of c.args.scene.now) (scene_values c.args.scene.now) c.args.frame.now c.args.arguments.now in
+    let entry : c.split_at_mut-variables.result.0.now ≡ frame_of BX c.in-Some.function.now args
+    = c.split_at_mut-variables.ensures.front ∙ ap (λ k. take (k + 1) c.enter.new.room) count ∙ c.enter.ensures ∙ ap (frame_of BX c.in-Some.function.now) signs in
+    call_value BX c.args.scene.now.functions.now c.args.scene.now.limit c.args.n args c.in-Some.function.now c.run.new.frame c.split_at_mut-variables.result.0.now (length c.as_slice.result.now + length c.as_slice-2.result.now) c.index-variables-result.result
+    c.in-Some.ensures entry (c.run.ensures ∙ ap (λ s. run BX (call_below BX c.args.scene.now.functions.now c.args.n) (nothing BX) s c.split_at_mut-variables.result.0.now) c.statement.ensures) count c.index-variables-result.is
     (omega (arith, c.split_at_mut-variables.ensures.front_len))
 
 pub case-has_label-requires : goal.case-has_label-requires
@@ -89,7 +89,7 @@ case-returns-then-has_label t c =
     let split = drop_item c.args.items.now c.loop-item.item-index c.item-item.result c.item-item.is (omega arith) in
     let has = sym c.has_label.ensures ∙ c.if-has_label.true in
     let labels = sym (ap (has_label (bits_at c.args.scene.now c.loop-item.frame c.args.size) (at_size c.args.size.width c.args.size.signed c.args.tested)) c.as_slice.ensures) ∙ has in
-    let here = first_at (bits_at c.args.scene.now c.loop-item.frame c.args.size) (at_size c.args.size.width c.args.size.signed c.args.tested) (calls_of c.args.scene.now) (scene_values c.args.scene.now) c.item-item.result next (run_in c.args.scene.now c.args.otherwise.now) true labels in
+    let here = first_at BX (bits_at c.args.scene.now c.loop-item.frame c.args.size) (at_size c.args.size.width c.args.size.signed c.args.tested) (calls_of c.args.scene.now) (scene_values c.args.scene.now) c.item-item.result next (run_in c.args.scene.now c.args.otherwise.now) true labels in
     let whole = ap (λ xs. first_branch (bits_at c.args.scene.now c.loop-item.frame c.args.size) (at_size c.args.size.width c.args.size.signed c.args.tested) (map (branch_in c.args.scene.now) xs) (run_in c.args.scene.now c.args.otherwise.now) c.loop-item.frame) split ∙ ap (λ (g : Frame → Frame). g c.loop-item.frame) here in
     rw (← c.loop-item.invariant.same) (c.run.ensures ∙ sym whole ∙ c.loop-item.invariant.left)
 
@@ -193,21 +193,21 @@ unfolding index_in
 run-returns-in-Assign t c =
     let parts = c.in-Assign.parts in
     let kept = ap (λ ps. take (length ps) c.indices.new.room) (sym c.as_slice.ensures) ∙ c.indices.ensures ∙ ap (map (index_in c.args.scene.now c.args.frame.now)) c.as_slice.ensures in
-    c.assign.ensures ∙ ap (λ ps. assigned ps c.indices.new.room c.value-right.result c.args.frame.now) c.as_slice-in-Assign.ensures
-    ∙ assigned_take parts c.indices.new.room c.value-right.result c.args.frame.now ∙ ap (λ ix. assigned parts ix c.value-right.result c.args.frame.now) kept
-    ∙ ap (λ b. assigned parts (map (index_in c.args.scene.now c.args.frame.now) parts) b c.args.frame.now) c.value-right.ensures ∙ sym (run_at (calls_of c.args.scene.now) (scene_values c.args.scene.now) c.args.frame.now c.args.statement.now (Statement-F.Assign c.in-Assign.parts c.in-Assign.right) (c.in-Assign.is ∙ sym (rolls-Assign c.in-Assign.parts c.in-Assign.right)))
+    c.assign.ensures ∙ ap (λ ps. assigned BX ps c.indices.new.room c.value-right.result c.args.frame.now) c.as_slice-in-Assign.ensures
+    ∙ assigned_take BX parts c.indices.new.room c.value-right.result c.args.frame.now ∙ ap (λ ix. assigned BX parts ix c.value-right.result c.args.frame.now) kept
+    ∙ ap (λ b. assigned BX parts (map (index_in c.args.scene.now c.args.frame.now) parts) b c.args.frame.now) c.value-right.ensures ∙ sym (run_at BX (calls_of c.args.scene.now) (scene_values c.args.scene.now) c.args.frame.now c.args.statement.now (Statement-F.Assign c.in-Assign.parts c.in-Assign.right) (c.in-Assign.is ∙ sym (rolls-Assign c.in-Assign.parts c.in-Assign.right)))
 
 pub run-returns-then-is_true : goal.run-returns-then-is_true
 run-returns-then-is_true t c =
     let test = sym (c.is_true.ensures ∙ ap (λ b. is_1 (truth_bit b)) c.value-test.ensures) ∙ c.if-is_true.true in
     c.run.ensures ∙ ap (λ s. run_in c.args.scene.now s c.args.frame.now) c.get.ensures
-    ∙ sym (run_at (calls_of c.args.scene.now) (scene_values c.args.scene.now) c.args.frame.now c.args.statement.now (Statement-F.If c.in-If.test c.in-If.taken c.in-If.other) (c.in-If.is ∙ sym (rolls-If c.in-If.test c.in-If.taken c.in-If.other)) ∙ ap (λ b. (cond b (run_in c.args.scene.now c.in-If.taken) (run_in c.args.scene.now c.in-If.other)) c.args.frame.now) test)
+    ∙ sym (run_at BX (calls_of c.args.scene.now) (scene_values c.args.scene.now) c.args.frame.now c.args.statement.now (Statement-F.If c.in-If.test c.in-If.taken c.in-If.other) (c.in-If.is ∙ sym (rolls-If c.in-If.test c.in-If.taken c.in-If.other)) ∙ ap (λ b. (cond b (run_in c.args.scene.now c.in-If.taken) (run_in c.args.scene.now c.in-If.other)) c.args.frame.now) test)
 
 pub run-returns-else-is_true : goal.run-returns-else-is_true
 run-returns-else-is_true t c =
     let test = sym (c.is_true.ensures ∙ ap (λ b. is_1 (truth_bit b)) c.value-test.ensures) ∙ c.if-is_true.false in
     c.run-else-is_true.ensures ∙ ap (λ s. run_in c.args.scene.now s c.args.frame.now) c.get-else-is_true.ensures
-    ∙ sym (run_at (calls_of c.args.scene.now) (scene_values c.args.scene.now) c.args.frame.now c.args.statement.now (Statement-F.If c.in-If.test c.in-If.taken c.in-If.other) (c.in-If.is ∙ sym (rolls-If c.in-If.test c.in-If.taken c.in-If.other)) ∙ ap (λ b. (cond b (run_in c.args.scene.now c.in-If.taken) (run_in c.args.scene.now c.in-If.other)) c.args.frame.now) test)
+    ∙ sym (run_at BX (calls_of c.args.scene.now) (scene_values c.args.scene.now) c.args.frame.now c.args.statement.now (Statement-F.If c.in-If.test c.in-If.taken c.in-If.other) (c.in-If.is ∙ sym (rolls-If c.in-If.test c.in-If.taken c.in-If.other)) ∙ ap (λ b. (cond b (run_in c.args.scene.now c.in-If.taken) (run_in c.args.scene.now c.in-If.other)) c.args.frame.now) test)
 
 pub run-returns-in-Case : goal.run-returns-in-Case
 run-returns-in-Case t c =
@@ -217,7 +217,7 @@ run-returns-in-Case t c =
     let frame = c.args.frame.now in
     let scene = c.args.scene.now in
     let size : c.case_size-size.result ≡ common (tested ∷ labels_of items) = c.case_size-size.ensures ∙ ap (λ is. common (tested ∷ labels_of is)) c.as_slice-items.ensures in
-    let labels : labels_of items ≡ flat_map (λ item. item.labels) (map (branch_in scene) items) = labels_back (calls_of scene) (scene_values scene) items in
+    let labels : labels_of items ≡ flat_map (λ item. item.labels) (map (branch_in scene) items) = labels_back BX (calls_of scene) (scene_values scene) items in
     let size_is = c.case_size-size.result in
     let chosen = λ (is : List CaseItem) (s : Statement). first_branch (bits_at scene frame size_is) (at_size size_is.width size_is.signed c.value-tested.result) (map (branch_in scene) is) (run_in scene s) frame in
     let labelled : c.case.new.frame ≡ chosen items c.get-in-Case.result.now = c.case.ensures ∙ ap (λ is. chosen is c.get-in-Case.result.now) c.as_slice-items.ensures in
@@ -225,15 +225,15 @@ run-returns-in-Case t c =
     taken ∙ ap (λ v. first_branch (bits_at scene frame c.case_size-size.result) (at_size c.case_size-size.result.width c.case_size-size.result.signed v) (map (branch_in scene) items) other frame) c.value-tested.ensures
     ∙ ap (λ s. first_branch (bits_at scene frame s) (bits_at scene frame s tested) (map (branch_in scene) items) other frame) size
     ∙ ap (λ ls. first_branch (bits_at scene frame (common (tested ∷ ls))) (bits_at scene frame (common (tested ∷ ls)) tested) (map (branch_in scene) items) other frame) labels
-    ∙ sym (run_at (calls_of scene) (scene_values scene) frame c.args.statement.now (Statement-F.Case tested items c.in-Case.otherwise) (c.in-Case.is ∙ sym (rolls-Case tested items c.in-Case.otherwise)))
+    ∙ sym (run_at BX (calls_of scene) (scene_values scene) frame c.args.statement.now (Statement-F.Case tested items c.in-Case.otherwise) (c.in-Case.is ∙ sym (rolls-Case tested items c.in-Case.otherwise)))
 
 pub run-returns-in-Begin : goal.run-returns-in-Begin
 run-returns-in-Begin t c =
-    c.run_all.ensures ∙ ap (λ ss. in_turn (map (run_in c.args.scene.now) ss) c.args.frame.now) c.as_slice-in-Begin.ensures ∙ sym (run_at (calls_of c.args.scene.now) (scene_values c.args.scene.now) c.args.frame.now c.args.statement.now (Statement-F.Begin c.in-Begin.statements) (c.in-Begin.is ∙ sym (rolls-Begin c.in-Begin.statements)))
+    c.run_all.ensures ∙ ap (λ ss. in_turn (map (run_in c.args.scene.now) ss) c.args.frame.now) c.as_slice-in-Begin.ensures ∙ sym (run_at BX (calls_of c.args.scene.now) (scene_values c.args.scene.now) c.args.frame.now c.args.statement.now (Statement-F.Begin c.in-Begin.statements) (c.in-Begin.is ∙ sym (rolls-Begin c.in-Begin.statements)))
 
 pub run-returns-in-Empty : goal.run-returns-in-Empty
 run-returns-in-Empty t c =
-    sym (run_at (calls_of c.args.scene.now) (scene_values c.args.scene.now) c.args.frame.now c.args.statement.now Statement-F.Empty (c.in-Empty.is ∙ sym rolls-Empty))
+    sym (run_at BX (calls_of c.args.scene.now) (scene_values c.args.scene.now) c.args.frame.now c.args.statement.now Statement-F.Empty (c.in-Empty.is ∙ sym rolls-Empty))
 
 pub run_all-run-requires : goal.run_all-run-requires
 run_all-run-requires t c =
@@ -382,10 +382,10 @@ unsized_value-returns-in-Gate t c =
     let scene = c.args.scene.now in
     let frame = c.args.frame.now in
     let bits = flat_map (input_in scene frame) inputs in
-    let folded : c.folded.result ≡ fold_inputs (gate_table op) (gate_start op) bits ∷ [] = c.folded.ensures ∙ ap (λ xs. fold_inputs (gate_table op) (gate_start op) (flat_map (input_in scene frame) xs) ∷ []) c.as_slice-in-Gate.ensures in
+    let folded : c.folded.result ≡ fold_inputs (gate_table op) (gate_start BX op) bits ∷ [] = c.folded.ensures ∙ ap (λ xs. fold_inputs (gate_table op) (gate_start BX op) (flat_map (input_in scene frame) xs) ∷ []) c.as_slice-in-Gate.ensures in
     let back : bits ≡ flat_map (λ (o : Operand). at_size 1 false o.bits) (map (operand_in scene frame) inputs) = sym (flat_map_map (λ (o : Operand). at_size 1 false o.bits) (operand_in scene frame) inputs) in
-    ap (at_size c.args.e.now.width c.args.e.now.signed) (c.gate_output.ensures ∙ ap (λ b. gate_output op (upper_bit b) ∷ []) folded ∙ ap (λ b. b ∷ []) (gate_is op bits) ∙ ap (λ bs. gate_bit op bs ∷ []) back)
-    ∙ sym (value_at_kind (calls_of scene) (scene_values scene) frame c.args.e.now (SizedKind-F.Gate op inputs) (c.in-Gate.is ∙ sym (rolls-Gate op inputs)))
+    ap (at_size c.args.e.now.width c.args.e.now.signed) (c.gate_output.ensures ∙ ap (λ b. gate_output op (upper_bit b) ∷ []) folded ∙ ap (λ b. b ∷ []) (gate_is BX op bits) ∙ ap (λ bs. gate_bit BX op bs ∷ []) back)
+    ∙ sym (value_at_kind BX (calls_of scene) (scene_values scene) frame c.args.e.now (SizedKind-F.Gate op inputs) (c.in-Gate.is ∙ sym (rolls-Gate op inputs)))
 
 pub folded-value-input-requires : goal.folded-value-input-requires
 folded-value-input-requires t c =
@@ -394,7 +394,7 @@ folded-value-input-requires t c =
     (grind (arith, d), grind (arith, r))
 
 pub folded-loop-input-init : goal.folded-loop-input-init
-folded-loop-input-init t c = c.gate_start-so_far.ensures ∙ ap (λ b. b ∷ []) (fold_none (gate_table c.args.op) (gate_start c.args.op))
+folded-loop-input-init t c = c.gate_start-so_far.ensures ∙ ap (λ b. b ∷ []) (fold_none (gate_table c.args.op) (gate_start BX c.args.op))
 
 pub folded-gate_table-so_far-requires-clause-input : goal.folded-gate_table-so_far-requires-clause-input
 folded-gate_table-so_far-requires-clause-input t c = ap length c.at_size.ensures ∙ at_size_length 1 false c.value-input.result
@@ -405,87 +405,87 @@ folded-loop-input-preserved t c =
     let xs = c.args.inputs.now in
     let i = c.loop-input.input-index in
     let op = c.args.op in
-    let start = fold_inputs (gate_table op) (gate_start op) (flat_map f (take i xs)) in
+    let start = fold_inputs (gate_table op) (gate_start BX op) (flat_map f (take i xs)) in
     let input : c.at_size.result ≡ f c.input-item.result = c.at_size.ensures ∙ ap (at_size 1 false) c.value-input.ensures in
     let whole : f c.input-item.result ≡ upper_bit (f c.input-item.result) ∷ [] = one_bit (f c.input-item.result) (at_size_length 1 false _) in
     c.gate_table-so_far.ensures ∙ ap (λ b. gate_table op (upper_bit b) (upper_bit c.at_size.result) ∷ []) c.loop-input.invariant
     ∙ ap (λ b. gate_table op start (upper_bit b) ∷ []) input
-    ∙ sym (ap (λ b. b ∷ []) (ap (λ bs. fold_inputs (gate_table op) (gate_start op) bs) (flat_take f xs i c.input-item.result c.input-item.is (omega arith) ∙ ap (λ bs. flat_map f (take i xs) ++ bs) whole)
-    ∙ fold_more (gate_table op) (gate_start op) (flat_map f (take i xs)) (upper_bit (f c.input-item.result))))
+    ∙ sym (ap (λ b. b ∷ []) (ap (λ bs. fold_inputs (gate_table op) (gate_start BX op) bs) (flat_take f xs i c.input-item.result c.input-item.is (omega arith) ∙ ap (λ bs. flat_map f (take i xs) ++ bs) whole)
+    ∙ fold_more (gate_table op) (gate_start BX op) (flat_map f (take i xs)) (upper_bit (f c.input-item.result))))
 
 pub folded-returns : goal.folded-returns
 folded-returns t c =
     let whole = take_all c.loop-input.input-index c.args.inputs.now (omega arith) in
-    c.loop-input.invariant ∙ ap (λ xs. fold_inputs (gate_table c.args.op) (gate_start c.args.op) (flat_map (input_in c.args.scene.now c.args.frame.now) xs) ∷ []) whole
+    c.loop-input.invariant ∙ ap (λ xs. fold_inputs (gate_table c.args.op) (gate_start BX c.args.op) (flat_map (input_in c.args.scene.now c.args.frame.now) xs) ∷ []) whole
 
 pub unsized_value-returns-in-Number : goal.unsized_value-returns-in-Number
 unsized_value-returns-in-Number t c =
-    let v = value_at_kind (calls_of c.args.scene.now) (scene_values c.args.scene.now) c.args.frame.now c.args.e.now (SizedKind-F.Number c.in-Number.bits) (c.in-Number.is ∙ sym (rolls-Number c.in-Number.bits)) in
+    let v = value_at_kind BX (calls_of c.args.scene.now) (scene_values c.args.scene.now) c.args.frame.now c.args.e.now (SizedKind-F.Number c.in-Number.bits) (c.in-Number.is ∙ sym (rolls-Number c.in-Number.bits)) in
     cc
 
 pub unsized_value-returns-in-Name : goal.unsized_value-returns-in-Name
 unsized_value-returns-in-Name t c =
-    let v = value_at_kind (calls_of c.args.scene.now) (scene_values c.args.scene.now) c.args.frame.now c.args.e.now (SizedKind-F.Name c.in-Name.name) (c.in-Name.is ∙ sym (rolls-Name c.in-Name.name)) in
+    let v = value_at_kind BX (calls_of c.args.scene.now) (scene_values c.args.scene.now) c.args.frame.now c.args.e.now (SizedKind-F.Name c.in-Name.name) (c.in-Name.is ∙ sym (rolls-Name c.in-Name.name)) in
     cc
 
 pub unsized_value-returns-in-Select : goal.unsized_value-returns-in-Select
 unsized_value-returns-in-Select t c =
-    let v = value_at_kind (calls_of c.args.scene.now) (scene_values c.args.scene.now) c.args.frame.now c.args.e.now (SizedKind-F.Select c.in-Select.name c.in-Select.low c.in-Select.count) (c.in-Select.is ∙ sym (rolls-Select c.in-Select.name c.in-Select.low c.in-Select.count)) in
+    let v = value_at_kind BX (calls_of c.args.scene.now) (scene_values c.args.scene.now) c.args.frame.now c.args.e.now (SizedKind-F.Select c.in-Select.name c.in-Select.low c.in-Select.count) (c.in-Select.is ∙ sym (rolls-Select c.in-Select.name c.in-Select.low c.in-Select.count)) in
     cc
 
 pub unsized_value-returns-in-Index : goal.unsized_value-returns-in-Index
 unsized_value-returns-in-Index t c =
-    rw (c.bit_at_place.ensures, c.index_place.ensures, c.named-in-Index.ensures, c.value-index.ensures, c.get.ensures) (sym (value_at_kind (calls_of c.args.scene.now) (scene_values c.args.scene.now) c.args.frame.now c.args.e.now (SizedKind-F.Index c.in-Index.name c.in-Index.least c.in-Index.index) (c.in-Index.is ∙ sym (rolls-Index c.in-Index.name c.in-Index.least c.in-Index.index))))
+    rw (c.bit_at_place.ensures, c.index_place.ensures, c.named-in-Index.ensures, c.value-index.ensures, c.get.ensures) (sym (value_at_kind BX (calls_of c.args.scene.now) (scene_values c.args.scene.now) c.args.frame.now c.args.e.now (SizedKind-F.Index c.in-Index.name c.in-Index.least c.in-Index.index) (c.in-Index.is ∙ sym (rolls-Index c.in-Index.name c.in-Index.least c.in-Index.index))))
 
 pub unsized_value-returns-in-Word : goal.unsized_value-returns-in-Word
 unsized_value-returns-in-Word t c =
-    ap (at_size c.args.e.now.width c.args.e.now.signed) (c.word.ensures ∙ ap (λ p. word_or_x (bounded c.in-Word.memory.width) (word_at (scene_values c.args.scene.now) c.in-Word.memory.number (Some p))) c.from.ensures) ∙ sym (value_at_kind (calls_of c.args.scene.now) (scene_values c.args.scene.now) c.args.frame.now c.args.e.now (SizedKind-F.Word c.in-Word.memory c.in-Word.place) (c.in-Word.is ∙ sym (rolls-Word c.in-Word.memory c.in-Word.place)))
+    ap (at_size c.args.e.now.width c.args.e.now.signed) (c.word.ensures ∙ ap (λ p. word_or_x BX (bounded c.in-Word.memory.width) (word_at (scene_values c.args.scene.now) c.in-Word.memory.number (Some p))) c.from.ensures) ∙ sym (value_at_kind BX (calls_of c.args.scene.now) (scene_values c.args.scene.now) c.args.frame.now c.args.e.now (SizedKind-F.Word c.in-Word.memory c.in-Word.place) (c.in-Word.is ∙ sym (rolls-Word c.in-Word.memory c.in-Word.place)))
 
 pub unsized_value-returns-in-WordIndex : goal.unsized_value-returns-in-WordIndex
 unsized_value-returns-in-WordIndex t c =
-    let v = value_at_kind (calls_of c.args.scene.now) (scene_values c.args.scene.now) c.args.frame.now c.args.e.now (SizedKind-F.WordIndex c.in-WordIndex.memory c.in-WordIndex.least c.in-WordIndex.index) (c.in-WordIndex.is ∙ sym (rolls-WordIndex c.in-WordIndex.memory c.in-WordIndex.least c.in-WordIndex.index)) in
+    let v = value_at_kind BX (calls_of c.args.scene.now) (scene_values c.args.scene.now) c.args.frame.now c.args.e.now (SizedKind-F.WordIndex c.in-WordIndex.memory c.in-WordIndex.least c.in-WordIndex.index) (c.in-WordIndex.is ∙ sym (rolls-WordIndex c.in-WordIndex.memory c.in-WordIndex.least c.in-WordIndex.index)) in
     cc
 
 pub unsized_value-returns-in-Unary : goal.unsized_value-returns-in-Unary
 unsized_value-returns-in-Unary t c =
-    let v = value_at_kind (calls_of c.args.scene.now) (scene_values c.args.scene.now) c.args.frame.now c.args.e.now (SizedKind-F.Unary c.in-Unary.op c.in-Unary.a) (c.in-Unary.is ∙ sym (rolls-Unary c.in-Unary.op c.in-Unary.a)) in
+    let v = value_at_kind BX (calls_of c.args.scene.now) (scene_values c.args.scene.now) c.args.frame.now c.args.e.now (SizedKind-F.Unary c.in-Unary.op c.in-Unary.a) (c.in-Unary.is ∙ sym (rolls-Unary c.in-Unary.op c.in-Unary.a)) in
     cc
 
 pub unsized_value-returns-in-Binary : goal.unsized_value-returns-in-Binary
 unsized_value-returns-in-Binary t c =
-    let v = value_at_kind (calls_of c.args.scene.now) (scene_values c.args.scene.now) c.args.frame.now c.args.e.now (SizedKind-F.Binary c.in-Binary.op c.in-Binary.a c.in-Binary.b) (c.in-Binary.is ∙ sym (rolls-Binary c.in-Binary.op c.in-Binary.a c.in-Binary.b)) in
+    let v = value_at_kind BX (calls_of c.args.scene.now) (scene_values c.args.scene.now) c.args.frame.now c.args.e.now (SizedKind-F.Binary c.in-Binary.op c.in-Binary.a c.in-Binary.b) (c.in-Binary.is ∙ sym (rolls-Binary c.in-Binary.op c.in-Binary.a c.in-Binary.b)) in
     cc
 
 pub unsized_value-returns-in-Comparison : goal.unsized_value-returns-in-Comparison
 unsized_value-returns-in-Comparison t c =
-    let one = operand_back (calls_of c.args.scene.now) (scene_values c.args.scene.now) c.args.frame.now c.in-Comparison.a in
-    let other = operand_back (calls_of c.args.scene.now) (scene_values c.args.scene.now) c.args.frame.now c.in-Comparison.b in
+    let one = operand_back BX (calls_of c.args.scene.now) (scene_values c.args.scene.now) c.args.frame.now c.in-Comparison.a in
+    let other = operand_back BX (calls_of c.args.scene.now) (scene_values c.args.scene.now) c.args.frame.now c.in-Comparison.b in
     rw (c.compared.ensures, c.value-one.ensures, c.value-other.ensures, c.get-in-Comparison.ensures, c.get-in-Comparison-2.ensures, c.get-in-Comparison-3.ensures, c.get-in-Comparison-4.ensures, one, other)
-    (sym (value_at_kind (calls_of c.args.scene.now) (scene_values c.args.scene.now) c.args.frame.now c.args.e.now (SizedKind-F.Comparison c.in-Comparison.op c.in-Comparison.a c.in-Comparison.b) (c.in-Comparison.is ∙ sym (rolls-Comparison c.in-Comparison.op c.in-Comparison.a c.in-Comparison.b))))
+    (sym (value_at_kind BX (calls_of c.args.scene.now) (scene_values c.args.scene.now) c.args.frame.now c.args.e.now (SizedKind-F.Comparison c.in-Comparison.op c.in-Comparison.a c.in-Comparison.b) (c.in-Comparison.is ∙ sym (rolls-Comparison c.in-Comparison.op c.in-Comparison.a c.in-Comparison.b))))
 
 pub unsized_value-returns-in-LogicalNot : goal.unsized_value-returns-in-LogicalNot
 unsized_value-returns-in-LogicalNot t c =
-    let v = value_at_kind (calls_of c.args.scene.now) (scene_values c.args.scene.now) c.args.frame.now c.args.e.now (SizedKind-F.LogicalNot c.in-LogicalNot.a) (c.in-LogicalNot.is ∙ sym (rolls-LogicalNot c.in-LogicalNot.a)) in
+    let v = value_at_kind BX (calls_of c.args.scene.now) (scene_values c.args.scene.now) c.args.frame.now c.args.e.now (SizedKind-F.LogicalNot c.in-LogicalNot.a) (c.in-LogicalNot.is ∙ sym (rolls-LogicalNot c.in-LogicalNot.a)) in
     cc
 
 pub unsized_value-returns-in-Logical : goal.unsized_value-returns-in-Logical
 unsized_value-returns-in-Logical t c =
-    let v = value_at_kind (calls_of c.args.scene.now) (scene_values c.args.scene.now) c.args.frame.now c.args.e.now (SizedKind-F.Logical c.in-Logical.op c.in-Logical.a c.in-Logical.b) (c.in-Logical.is ∙ sym (rolls-Logical c.in-Logical.op c.in-Logical.a c.in-Logical.b)) in
+    let v = value_at_kind BX (calls_of c.args.scene.now) (scene_values c.args.scene.now) c.args.frame.now c.args.e.now (SizedKind-F.Logical c.in-Logical.op c.in-Logical.a c.in-Logical.b) (c.in-Logical.is ∙ sym (rolls-Logical c.in-Logical.op c.in-Logical.a c.in-Logical.b)) in
     cc
 
 pub unsized_value-returns-in-Reduction : goal.unsized_value-returns-in-Reduction
 unsized_value-returns-in-Reduction t c =
-    let v = value_at_kind (calls_of c.args.scene.now) (scene_values c.args.scene.now) c.args.frame.now c.args.e.now (SizedKind-F.Reduction c.in-Reduction.op c.in-Reduction.a) (c.in-Reduction.is ∙ sym (rolls-Reduction c.in-Reduction.op c.in-Reduction.a)) in
+    let v = value_at_kind BX (calls_of c.args.scene.now) (scene_values c.args.scene.now) c.args.frame.now c.args.e.now (SizedKind-F.Reduction c.in-Reduction.op c.in-Reduction.a) (c.in-Reduction.is ∙ sym (rolls-Reduction c.in-Reduction.op c.in-Reduction.a)) in
     cc
 
 pub unsized_value-returns-in-Shift : goal.unsized_value-returns-in-Shift
 unsized_value-returns-in-Shift t c =
-    let v = value_at_kind (calls_of c.args.scene.now) (scene_values c.args.scene.now) c.args.frame.now c.args.e.now (SizedKind-F.Shift c.in-Shift.op c.in-Shift.a c.in-Shift.amount) (c.in-Shift.is ∙ sym (rolls-Shift c.in-Shift.op c.in-Shift.a c.in-Shift.amount)) in
+    let v = value_at_kind BX (calls_of c.args.scene.now) (scene_values c.args.scene.now) c.args.frame.now c.args.e.now (SizedKind-F.Shift c.in-Shift.op c.in-Shift.a c.in-Shift.amount) (c.in-Shift.is ∙ sym (rolls-Shift c.in-Shift.op c.in-Shift.a c.in-Shift.amount)) in
     cc
 
 pub unsized_value-returns-in-Conditional : goal.unsized_value-returns-in-Conditional
 unsized_value-returns-in-Conditional t c =
-    let v = value_at_kind (calls_of c.args.scene.now) (scene_values c.args.scene.now) c.args.frame.now c.args.e.now (SizedKind-F.Conditional c.in-Conditional.test c.in-Conditional.a c.in-Conditional.b) (c.in-Conditional.is ∙ sym (rolls-Conditional c.in-Conditional.test c.in-Conditional.a c.in-Conditional.b)) in
+    let v = value_at_kind BX (calls_of c.args.scene.now) (scene_values c.args.scene.now) c.args.frame.now c.args.e.now (SizedKind-F.Conditional c.in-Conditional.test c.in-Conditional.a c.in-Conditional.b) (c.in-Conditional.is ∙ sym (rolls-Conditional c.in-Conditional.test c.in-Conditional.a c.in-Conditional.b)) in
     cc
 
 pub unsized_value-returns-in-Concat : goal.unsized_value-returns-in-Concat
@@ -493,18 +493,18 @@ unsized_value-returns-in-Concat t c =
     ap (at_size c.args.e.now.width c.args.e.now.signed) c.filled.ensures ∙ filled_size c.args.e.now.width c.args.e.now.signed c.concat.result
     ∙ ap (at_size c.args.e.now.width c.args.e.now.signed) (c.concat.ensures ∙ ap (λ xs. lowest (flat_map (bits_in c.args.scene.now c.args.frame.now) xs)) c.as_slice.ensures)
     ∙ lowest_size c.args.e.now.width c.args.e.now.signed (flat_map (bits_in c.args.scene.now c.args.frame.now) c.in-Concat.parts)
-    ∙ ap (at_size c.args.e.now.width c.args.e.now.signed) (sym (flat_map_map (λ (o : Operand). o.bits) (operand_in c.args.scene.now c.args.frame.now) c.in-Concat.parts)) ∙ sym (value_at_kind (calls_of c.args.scene.now) (scene_values c.args.scene.now) c.args.frame.now c.args.e.now (SizedKind-F.Concat c.in-Concat.parts) (c.in-Concat.is ∙ sym (rolls-Concat c.in-Concat.parts)))
+    ∙ ap (at_size c.args.e.now.width c.args.e.now.signed) (sym (flat_map_map (λ (o : Operand). o.bits) (operand_in c.args.scene.now c.args.frame.now) c.in-Concat.parts)) ∙ sym (value_at_kind BX (calls_of c.args.scene.now) (scene_values c.args.scene.now) c.args.frame.now c.args.e.now (SizedKind-F.Concat c.in-Concat.parts) (c.in-Concat.is ∙ sym (rolls-Concat c.in-Concat.parts)))
 
 pub unsized_value-returns-in-Replicate : goal.unsized_value-returns-in-Replicate
 unsized_value-returns-in-Replicate t c =
     let a = c.value-a-in-Replicate.ensures ∙ ap (bits_in c.args.scene.now c.args.frame.now) c.get-in-Replicate.ensures in
     ap (at_size c.args.e.now.width c.args.e.now.signed) c.filled-in-Replicate.ensures ∙ filled_size c.args.e.now.width c.args.e.now.signed c.repeated.result
     ∙ ap (at_size c.args.e.now.width c.args.e.now.signed) (c.repeated.ensures ∙ ap (λ b. lowest (repeated c.in-Replicate.count b)) a)
-    ∙ lowest_size c.args.e.now.width c.args.e.now.signed (repeated c.in-Replicate.count (bits_in c.args.scene.now c.args.frame.now c.in-Replicate.a)) ∙ sym (value_at_kind (calls_of c.args.scene.now) (scene_values c.args.scene.now) c.args.frame.now c.args.e.now (SizedKind-F.Replicate c.in-Replicate.count c.in-Replicate.a) (c.in-Replicate.is ∙ sym (rolls-Replicate c.in-Replicate.count c.in-Replicate.a)))
+    ∙ lowest_size c.args.e.now.width c.args.e.now.signed (repeated c.in-Replicate.count (bits_in c.args.scene.now c.args.frame.now c.in-Replicate.a)) ∙ sym (value_at_kind BX (calls_of c.args.scene.now) (scene_values c.args.scene.now) c.args.frame.now c.args.e.now (SizedKind-F.Replicate c.in-Replicate.count c.in-Replicate.a) (c.in-Replicate.is ∙ sym (rolls-Replicate c.in-Replicate.count c.in-Replicate.a)))
 
 pub unsized_value-returns-in-Call : goal.unsized_value-returns-in-Call
 unsized_value-returns-in-Call t c =
-    let v = value_at_kind (calls_of c.args.scene.now) (scene_values c.args.scene.now) c.args.frame.now c.args.e.now (SizedKind-F.Call c.in-Call.n c.in-Call.arguments) (c.in-Call.is ∙ sym (rolls-Call c.in-Call.n c.in-Call.arguments)) in
+    let v = value_at_kind BX (calls_of c.args.scene.now) (scene_values c.args.scene.now) c.args.frame.now c.args.e.now (SizedKind-F.Call c.in-Call.n c.in-Call.arguments) (c.in-Call.is ∙ sym (rolls-Call c.in-Call.n c.in-Call.arguments)) in
     cc
 
 pub values-slice_bounds-value-count : goal.values-slice_bounds-value-count
@@ -574,18 +574,18 @@ case-loop-item-preserved t c =
     let split = drop_item c.args.items.now c.loop-item.item-index c.item-item.result c.item-item.is (omega arith) in
     let has = sym c.has_label.ensures ∙ c.if-has_label.false in
     let labels = sym (ap (has_label (bits_at c.args.scene.now c.loop-item.frame c.args.size) (at_size c.args.size.width c.args.size.signed c.args.tested)) c.as_slice.ensures) ∙ has in
-    let here = first_at (bits_at c.args.scene.now c.loop-item.frame c.args.size) (at_size c.args.size.width c.args.size.signed c.args.tested) (calls_of c.args.scene.now) (scene_values c.args.scene.now) c.item-item.result next (run_in c.args.scene.now c.args.otherwise.now) false labels in
+    let here = first_at BX (bits_at c.args.scene.now c.loop-item.frame c.args.size) (at_size c.args.size.width c.args.size.signed c.args.tested) (calls_of c.args.scene.now) (scene_values c.args.scene.now) c.item-item.result next (run_in c.args.scene.now c.args.otherwise.now) false labels in
     let whole = ap (λ xs. first_branch (bits_at c.args.scene.now c.loop-item.frame c.args.size) (at_size c.args.size.width c.args.size.signed c.args.tested) (map (branch_in c.args.scene.now) xs) (run_in c.args.scene.now c.args.otherwise.now) c.loop-item.frame) split ∙ ap (λ (g : Frame → Frame). g c.loop-item.frame) here in
     record { same = c.loop-item.invariant.same; left = sym whole ∙ c.loop-item.invariant.left }
 
 pub part_index-returns-in-Bits : goal.part_index-returns-in-Bits
 unfolding index_in
-part_index-returns-in-Bits t c = c.unknown_bit.ensures ∙ sym (ap (index_bits (operand_in c.args.scene.now c.args.frame.now)) c.in-Bits.is)
+part_index-returns-in-Bits t c = c.unknown_bit.ensures ∙ sym (ap (index_bits BX (operand_in c.args.scene.now c.args.frame.now)) c.in-Bits.is)
 
 pub part_index-returns-in-Index : goal.part_index-returns-in-Index
 unfolding index_in
-part_index-returns-in-Index t c = c.value.ensures ∙ sym (ap (index_bits (operand_in c.args.scene.now c.args.frame.now)) c.in-Index.is)
+part_index-returns-in-Index t c = c.value.ensures ∙ sym (ap (index_bits BX (operand_in c.args.scene.now c.args.frame.now)) c.in-Index.is)
 
 pub part_index-returns-in-Word : goal.part_index-returns-in-Word
 unfolding index_in
-part_index-returns-in-Word t c = c.value-in-Word.ensures ∙ sym (ap (index_bits (operand_in c.args.scene.now c.args.frame.now)) c.in-Word.is)
+part_index-returns-in-Word t c = c.value-in-Word.ensures ∙ sym (ap (index_bits BX (operand_in c.args.scene.now c.args.frame.now)) c.in-Word.is)

@@ -1,4 +1,5 @@
 use Rattle.std.proofs.Common.{◌≡◌, ◌+◌, ◌*◌, max, ◌∷◌, [], map, flat_map, take, drop}
+use Rattle.vod_bits.specs.Bit.{BX}
 use Rattle.vod_eval.specs.Pieces.{bits_of_option, lowest, gate_start, gate_table}
 use Rattle.vod_design.specs.Values.{at_size}
 use Rattle.vod_design.specs.Eval.{fold_inputs}
@@ -48,7 +49,7 @@ abbrev pub invariant-concat-loop-part : goal.invariant-concat-loop-part
 invariant-concat-loop-part l = bits_of_option l.bits ≡ lowest (flat_map (bits_in l.scene l.frame) (take l.part-index l.parts))
 
 abbrev pub invariant-folded-loop-input : goal.invariant-folded-loop-input
-invariant-folded-loop-input l = l.so_far ≡ fold_inputs (gate_table l.op) (gate_start l.op) (flat_map (input_in l.scene l.frame) (take l.input-index l.inputs)) ∷ []
+invariant-folded-loop-input l = l.so_far ≡ fold_inputs (gate_table l.op) (gate_start BX l.op) (flat_map (input_in l.scene l.frame) (take l.input-index l.inputs)) ∷ []
 
 abbrev pub invariant-values-loop-i : goal.invariant-values-loop-i
 invariant-values-loop-i l = take l.i l.room ≡ map (bits_in l.scene l.frame) (take l.i l.exprs)

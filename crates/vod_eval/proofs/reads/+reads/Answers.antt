@@ -1,5 +1,5 @@
 -- What each kind of expression reads, by its equation.
-use Rattle.std.proofs.Common.{◌≡◌, ◌∙◌, List, ◌++◌, sym, ap, arith, append-nil, append_assoc}
+use Rattle.std.proofs.Common.{◌∙◌, List, ◌++◌, sym, ap, arith, append-nil, append_assoc}
 use Rattle.vod_design.specs.declared.sized.SizedKind.TheOpen.{SizedKind-F}
 use Rattle.vod_design.specs.declared.sized.SizedKind.TheVariants.{rolls-Number, rolls-Name, rolls-Select, rolls-Index, rolls-Word, rolls-WordIndex, rolls-Unary, rolls-Binary, rolls-Comparison, rolls-LogicalNot, rolls-Logical, rolls-Reduction, rolls-Shift, rolls-Conditional, rolls-Concat, rolls-Replicate, rolls-Call, rolls-Gate}
 use Rattle.vod_design.specs.Reads.{reads}
