@@ -4,7 +4,7 @@ use Rattle.std.proofs.Math.Nat.{mul-le-mul_right}
 use Rattle.std.proofs.lemmas.List.{get_or_read}
 use Rattle.std.proofs.lemmas.Bool.{lt-ltb, le-ltb, ltb-true}
 use Rattle.std.proofs.lemmas.Bool.Decides.{eqb_tells, nat_tests}
-use Rattle.vod_bits.specs.Bit.{Bit, B0, B1, BX, BZ, is_1, not_bit}
+use Rattle.vod_bits.specs.Bit.{Bit}
 use Rattle.vod_design.specs.declared.sized.SizedExpr.{SizedExpr}
 use Rattle.vod_design.specs.declared.statement.Function.{Function}
 use Rattle.vod_design.specs.declared.statement.Part.{Part}
@@ -74,12 +74,6 @@ pub assigned_take : (fill : Bit) (parts : List Part) (indices : List (List Bit))
 assigned_take fill [] indices value frame = refl
 assigned_take fill (p ∷ parts) [] value frame = refl
 assigned_take fill (p ∷ parts) (index ∷ indices) value frame = assigned_take fill parts indices value (written fill (target_of p.target index) (select_bits fill p.low (bounded p.width) value) frame)
-
-pub twice_not : (b : Bit) → is_1 (not_bit (not_bit b)) ≡ is_1 b
-twice_not B0 = refl
-twice_not B1 = refl
-twice_not BX = refl
-twice_not BZ = refl
 
 -- the value of a call, where the function's body was run over its variables
 pub call_value : (fill : Bit) (functions : List Function) (k n : ℕ) (arguments : List Operand) (f : Function) (frame entry : Frame) (index : ℕ) (r : List Bit) → found functions k n ≡ Some f

@@ -14,7 +14,7 @@ use crate::tree::{Looked, both_hold, unsized_node};
 use std::alloc::{AllocError, Global};
 use vod_bits::{Bits, WIDTH, Word};
 use vod_design::{SizedExpr, SizedKind};
-use vod_eval::{call_rooms, expr_room, value_of};
+use vod_eval::{Lists, call_rooms, expr_room, value_of};
 use vod_four::Four;
 use vod_tree::Number;
 
@@ -67,7 +67,11 @@ pub fn value(alloc: Global, e: &SizedExpr) -> Result<Four, AllocError>
     ensures { IfOk result (λ v. v ≡ eval BX [] (nothing BX) [] e.now) }
 {
     let mut room = room(alloc, e)?;
-    Ok(value_of(&[], &[], &[], e, &mut room))
+    let none = Lists {
+        signals: &[],
+        memories: &[],
+    };
+    Ok(value_of(&[], &none, e, &mut room))
 }
 
 // The number that a known value stands for.

@@ -5,7 +5,7 @@ use Rattle.vod_design.specs.declared.sized.SizedKind.TheVariants.{rolls-Number, 
 use Rattle.vod_design.specs.Reads.{reads}
 use Rattle.vod_eval.proofs.Layers.{reads_at}
 use Rattle.vod_design.specs.declared.read.Read.{Read}
-use Rattle.vod_eval.proofs.Lists.{flat_map_map}
+use Rattle.vod_eval.proofs.Kept.{flat_map_map}
 use Rattle.vod_eval.proofs.ReadLists.{behind, more, whole_list}
 use Rattle.vod_eval.proofs.reads.+reads.Goals as goal
 
