@@ -9,7 +9,7 @@ use std::alloc::{AllocError, Global};
 use std::io;
 use vod_bits::WIDTH;
 use vod_design::{Function, Read, SizedExpr};
-use vod_eval::{add_reads, call_rooms, expr_room, value_of};
+use vod_eval::{Lists, add_reads, call_rooms, expr_room, value_of};
 use vod_expr::read_expr;
 use vod_four::Four;
 use vod_token::tokens;
@@ -55,13 +55,11 @@ fn room(alloc: Global, functions: &[Function], e: &SizedExpr) -> Result<Vec<Four
 pub fn value(alloc: Global, world: &World, e: &SizedExpr) -> Result<Four, AllocError> {
     let functions = world.functions.as_slice();
     let mut room = room(alloc, functions, e)?;
-    Ok(value_of(
-        functions,
-        world.signals.as_slice(),
-        world.rams.as_slice(),
-        e,
-        &mut room,
-    ))
+    let tables = Lists {
+        signals: world.signals.as_slice(),
+        memories: world.rams.as_slice(),
+    };
+    Ok(value_of(functions, &tables, e, &mut room))
 }
 
 fn print_value(rt: &impl Print, width: u8, signed: bool, value: Four) -> io::Result<()> {

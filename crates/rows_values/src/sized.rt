@@ -18,7 +18,7 @@ use vod_design::{
     Body, CaseItem, Function, GateOp, Locals, Memory, Named, Part, PartTarget, SizedExpr,
     SizedKind, Statement, Variable,
 };
-use vod_eval::{call_rooms, expr_room, value_of};
+use vod_eval::{Lists, call_rooms, expr_room, value_of};
 use vod_four::Four;
 
 /// The calls of such rows.
@@ -101,10 +101,11 @@ fn print_value(
     memories: &[Items<Four>],
     e: &SizedExpr,
 ) -> io::Result<()> {
+    let tables = Lists { signals, memories };
     let mut room = room(rt.alloc(), functions, e)?;
     print(
         rt,
-        Some(value_of(functions, signals, memories, e, &mut room)),
+        Some(value_of(functions, &tables, e, &mut room)),
     )
 }
 

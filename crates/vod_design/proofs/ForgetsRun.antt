@@ -28,26 +28,26 @@ target_same (part.Bits x low) index = refl
 target_same (part.Index x least e) index = refl
 target_same (part.Word memory least e) index = refl
 
-index_same : (value : SizedExpr → Operand) → ((e : SizedExpr) → value (unplaced e) ≡ value e) → (t : PartTarget) → index_bits value (target_unplaced t) ≡ index_bits value t
-index_same value h (part.Bits x low) = refl
-index_same value h (part.Index x least e) = ap (λ (o : Operand). o.bits) (h e)
-index_same value h (part.Word memory least e) = ap (λ (o : Operand). o.bits) (h e)
+index_same : (fill : Bit) (value : SizedExpr → Operand) → ((e : SizedExpr) → value (unplaced e) ≡ value e) → (t : PartTarget) → index_bits fill value (target_unplaced t) ≡ index_bits fill value t
+index_same fill value h (part.Bits x low) = refl
+index_same fill value h (part.Index x least e) = ap (λ (o : Operand). o.bits) (h e)
+index_same fill value h (part.Word memory least e) = ap (λ (o : Operand). o.bits) (h e)
 
-indices_same : (value : SizedExpr → Operand) → ((e : SizedExpr) → value (unplaced e) ≡ value e) → (parts : List Part)
-    → map (λ p. index_bits value p.target) (map part_unplaced parts) ≡ map (λ p. index_bits value p.target) parts
-indices_same value h [] = refl
-indices_same value h (p ∷ parts) =
-    let here : index_bits value (target_unplaced p.target) ≡ index_bits value p.target = index_same value h p.target in
-    let more : map (λ p. index_bits value p.target) (map part_unplaced parts) ≡ map (λ p. index_bits value p.target) parts = indices_same value h parts in
+indices_same : (fill : Bit) (value : SizedExpr → Operand) → ((e : SizedExpr) → value (unplaced e) ≡ value e) → (parts : List Part)
+    → map (λ p. index_bits fill value p.target) (map part_unplaced parts) ≡ map (λ p. index_bits fill value p.target) parts
+indices_same fill value h [] = refl
+indices_same fill value h (p ∷ parts) =
+    let here : index_bits fill value (target_unplaced p.target) ≡ index_bits fill value p.target = index_same fill value h p.target in
+    let more : map (λ p. index_bits fill value p.target) (map part_unplaced parts) ≡ map (λ p. index_bits fill value p.target) parts = indices_same fill value h parts in
     cc
 
-parts_same : (parts : List Part) (indices : List (List Bit)) (value : List Bit) (frame : Frame) → assigned (map part_unplaced parts) indices value frame ≡ assigned parts indices value frame
-parts_same [] indices value frame = refl
-parts_same (p ∷ parts) [] value frame = refl
-parts_same (p ∷ parts) (index ∷ indices) value frame =
-    let bits = select_bits p.low (bounded p.width) value in
-    ap (λ (t : Option Target). assigned (map part_unplaced parts) indices value (written t bits frame)) (target_same p.target index)
-    ∙ parts_same parts indices value (written (target_of p.target index) bits frame)
+parts_same : (fill : Bit) (parts : List Part) (indices : List (List Bit)) (value : List Bit) (frame : Frame) → assigned fill (map part_unplaced parts) indices value frame ≡ assigned fill parts indices value frame
+parts_same fill [] indices value frame = refl
+parts_same fill (p ∷ parts) [] value frame = refl
+parts_same fill (p ∷ parts) (index ∷ indices) value frame =
+    let bits = select_bits fill p.low (bounded p.width) value in
+    ap (λ (t : Option Target). assigned fill (map part_unplaced parts) indices value (written fill t bits frame)) (target_same p.target index)
+    ∙ parts_same fill parts indices value (written fill (target_of p.target index) bits frame)
 
 -- the size of a `case`
 
@@ -113,81 +113,81 @@ case_same value h tested bs otherwise =
 
 -- whole statements
 
-abbrev Same : Calls → Values → Statement → Type 0
-Same calls values s = run calls values (statement_unplaced s) ≡ run calls values s
+abbrev Same : Bit → Calls → Values → Statement → Type 0
+Same fill calls values s = run fill calls values (statement_unplaced s) ≡ run fill calls values s
 
 abbrev bare_item : CaseItem → CaseItem
 bare_item item = fold-CaseItem Statement CaseItem (λ x. roll-Statement (layer_unplaced x)) item_unplaced item
 
-abbrev ItemSame : Calls → Values → CaseItem → Type 0
-ItemSame calls values item = branch calls values (bare_item item) ≡ bare_branch (branch calls values item)
+abbrev ItemSame : Bit → Calls → Values → CaseItem → Type 0
+ItemSame fill calls values item = branch fill calls values (bare_item item) ≡ bare_branch (branch fill calls values item)
 
-abbrev With : Calls → Values → Type 0
-With calls values = (s : Statement) × Same calls values s
+abbrev With : Bit → Calls → Values → Type 0
+With fill calls values = (s : Statement) × Same fill calls values s
 
-abbrev WithItem : Calls → Values → Type 0
-WithItem calls values = (item : CaseItem) × ItemSame calls values item
+abbrev WithItem : Bit → Calls → Values → Type 0
+WithItem fill calls values = (item : CaseItem) × ItemSame fill calls values item
 
 abbrev Layer : Type 0
 Layer = Statement-F Statement CaseItem
 
-abbrev Proved : Calls → Values → Type 0
-Proved calls values = Statement-F (With calls values) (WithItem calls values)
+abbrev Proved : Bit → Calls → Values → Type 0
+Proved fill calls values = Statement-F (With fill calls values) (WithItem fill calls values)
 
-abbrev bare : (calls : Calls) (values : Values) → Proved calls values → Layer
-bare calls values y = map-Statement (With calls values) (WithItem calls values) Statement CaseItem (λ s. s.0) (λ i. i.0) y
+abbrev bare : (fill : Bit) (calls : Calls) (values : Values) → Proved fill calls values → Layer
+bare fill calls values y = map-Statement (With fill calls values) (WithItem fill calls values) Statement CaseItem (λ s. s.0) (λ i. i.0) y
 
 abbrev inner : Layer → Layer
 inner x = map-Statement Statement CaseItem Statement CaseItem statement_unplaced bare_item x
 
-abbrev done : Calls → Values → Layer → Frame → Frame
-done calls values x = effect (operand_of calls values) (map-Statement Statement CaseItem (Frame → Frame) Branch (run calls values) (branch calls values) x)
+abbrev done : Bit → Calls → Values → Layer → Frame → Frame
+done fill calls values x = effect fill (operand_of fill calls values) (map-Statement Statement CaseItem (Frame → Frame) Branch (run fill calls values) (branch fill calls values) x)
 
-runs_same : (calls : Calls) (values : Values) (ss : List (With calls values)) → map (run calls values) (map statement_unplaced (map (λ s. s.0) ss)) ≡ map (run calls values) (map (λ s. s.0) ss)
-runs_same calls values [] = refl
-runs_same calls values (s ∷ ss) =
-    let here : run calls values (statement_unplaced s.0) ≡ run calls values s.0 = s.1 in
-    let more : map (run calls values) (map statement_unplaced (map (λ s. s.0) ss)) ≡ map (run calls values) (map (λ s. s.0) ss) = runs_same calls values ss in
+runs_same : (fill : Bit) (calls : Calls) (values : Values) (ss : List (With fill calls values)) → map (run fill calls values) (map statement_unplaced (map (λ s. s.0) ss)) ≡ map (run fill calls values) (map (λ s. s.0) ss)
+runs_same fill calls values [] = refl
+runs_same fill calls values (s ∷ ss) =
+    let here : run fill calls values (statement_unplaced s.0) ≡ run fill calls values s.0 = s.1 in
+    let more : map (run fill calls values) (map statement_unplaced (map (λ s. s.0) ss)) ≡ map (run fill calls values) (map (λ s. s.0) ss) = runs_same fill calls values ss in
     cc
 
-items_same : (calls : Calls) (values : Values) (is : List (WithItem calls values)) → map (branch calls values) (map bare_item (map (λ i. i.0) is)) ≡ map bare_branch (map (branch calls values) (map (λ i. i.0) is))
-items_same calls values [] = refl
-items_same calls values (i ∷ is) =
-    let here : branch calls values (bare_item i.0) ≡ bare_branch (branch calls values i.0) = i.1 in
-    let more : map (branch calls values) (map bare_item (map (λ i. i.0) is)) ≡ map bare_branch (map (branch calls values) (map (λ i. i.0) is)) = items_same calls values is in
+items_same : (fill : Bit) (calls : Calls) (values : Values) (is : List (WithItem fill calls values)) → map (branch fill calls values) (map bare_item (map (λ i. i.0) is)) ≡ map bare_branch (map (branch fill calls values) (map (λ i. i.0) is))
+items_same fill calls values [] = refl
+items_same fill calls values (i ∷ is) =
+    let here : branch fill calls values (bare_item i.0) ≡ bare_branch (branch fill calls values i.0) = i.1 in
+    let more : map (branch fill calls values) (map bare_item (map (λ i. i.0) is)) ≡ map bare_branch (map (branch fill calls values) (map (λ i. i.0) is)) = items_same fill calls values is in
     cc
 
-layer_same : (calls : Calls) (values : Values) (y : Proved calls values) (frame : Frame) → done calls values (layer_unplaced (inner (bare calls values y))) frame ≡ done calls values (bare calls values y) frame
-layer_same calls values (Statement-F.Assign parts right) frame =
-    let value = operand_of calls values frame in
-    ap (λ (o : Operand). assigned (map part_unplaced parts) (map (λ p. index_bits value p.target) (map part_unplaced parts)) o.bits frame) (same calls values frame right)
-    ∙ ap (λ ix. assigned (map part_unplaced parts) ix (value right).bits frame) (indices_same value (same calls values frame) parts)
-    ∙ parts_same parts (map (λ p. index_bits value p.target) parts) (value right).bits frame
-layer_same calls values (Statement-F.If test taken other) frame =
-    let value = operand_of calls values frame in
-    ap (λ (o : Operand). (if is_1 (truth_bit o.bits) then run calls values (statement_unplaced taken.0) else run calls values (statement_unplaced other.0)) frame) (same calls values frame test)
-    ∙ ap (λ f. (if is_1 (truth_bit (value test).bits) then f else run calls values (statement_unplaced other.0)) frame) taken.1
-    ∙ ap (λ f. (if is_1 (truth_bit (value test).bits) then run calls values taken.0 else f) frame) other.1
-layer_same calls values (Statement-F.Case tested items otherwise) frame =
-    let value = operand_of calls values frame in
-    ap (λ bs. case_branch value (unplaced tested) bs (run calls values (statement_unplaced otherwise.0)) frame) (items_same calls values items)
-    ∙ ap (λ f. case_branch value (unplaced tested) (map bare_branch (map (branch calls values) (map (λ i. i.0) items))) f frame) otherwise.1
-    ∙ ap (λ (g : Frame → Frame). g frame) (case_same value (same calls values frame) tested (map (branch calls values) (map (λ i. i.0) items)) (run calls values otherwise.0))
-layer_same calls values (Statement-F.Begin statements) frame = ap (λ fs. in_turn fs frame) (runs_same calls values statements)
-layer_same calls values Statement-F.Empty frame = refl
+layer_same : (fill : Bit) (calls : Calls) (values : Values) (y : Proved fill calls values) (frame : Frame) → done fill calls values (layer_unplaced (inner (bare fill calls values y))) frame ≡ done fill calls values (bare fill calls values y) frame
+layer_same fill calls values (Statement-F.Assign parts right) frame =
+    let value = operand_of fill calls values frame in
+    ap (λ (o : Operand). assigned fill (map part_unplaced parts) (map (λ p. index_bits fill value p.target) (map part_unplaced parts)) o.bits frame) (same fill calls values frame right)
+    ∙ ap (λ ix. assigned fill (map part_unplaced parts) ix (value right).bits frame) (indices_same fill value (same fill calls values frame) parts)
+    ∙ parts_same fill parts (map (λ p. index_bits fill value p.target) parts) (value right).bits frame
+layer_same fill calls values (Statement-F.If test taken other) frame =
+    let value = operand_of fill calls values frame in
+    ap (λ (o : Operand). (if is_1 (truth_bit o.bits) then run fill calls values (statement_unplaced taken.0) else run fill calls values (statement_unplaced other.0)) frame) (same fill calls values frame test)
+    ∙ ap (λ f. (if is_1 (truth_bit (value test).bits) then f else run fill calls values (statement_unplaced other.0)) frame) taken.1
+    ∙ ap (λ f. (if is_1 (truth_bit (value test).bits) then run fill calls values taken.0 else f) frame) other.1
+layer_same fill calls values (Statement-F.Case tested items otherwise) frame =
+    let value = operand_of fill calls values frame in
+    ap (λ bs. case_branch value (unplaced tested) bs (run fill calls values (statement_unplaced otherwise.0)) frame) (items_same fill calls values items)
+    ∙ ap (λ f. case_branch value (unplaced tested) (map bare_branch (map (branch fill calls values) (map (λ i. i.0) items))) f frame) otherwise.1
+    ∙ ap (λ (g : Frame → Frame). g frame) (case_same value (same fill calls values frame) tested (map (branch fill calls values) (map (λ i. i.0) items)) (run fill calls values otherwise.0))
+layer_same fill calls values (Statement-F.Begin statements) frame = ap (λ fs. in_turn fs frame) (runs_same fill calls values statements)
+layer_same fill calls values Statement-F.Empty frame = refl
 
-rolled : (calls : Calls) (values : Values) (y : Proved calls values) → Same calls values (roll-Statement (bare calls values y))
+rolled : (fill : Bit) (calls : Calls) (values : Values) (y : Proved fill calls values) → Same fill calls values (roll-Statement (bare fill calls values y))
 unfolding run branch statement_unplaced
-rolled calls values y =
-    let x = bare calls values y in
+rolled fill calls values y =
+    let x = bare fill calls values y in
     let bare_is = fold-roll-Statement Statement CaseItem (λ x. roll-Statement (layer_unplaced x)) item_unplaced x in
-    let open_bare = fold-roll-Statement (Frame → Frame) Branch (effect (operand_of calls values)) branch_of (layer_unplaced (inner x)) in
-    let open_whole = fold-roll-Statement (Frame → Frame) Branch (effect (operand_of calls values)) branch_of x in
-    let middle : done calls values (layer_unplaced (inner x)) ≡ done calls values x = λ i frame. layer_same calls values y frame i in
-    ap (run calls values) bare_is ∙ open_bare ∙ middle ∙ sym open_whole
+    let open_bare = fold-roll-Statement (Frame → Frame) Branch (effect fill (operand_of fill calls values)) branch_of (layer_unplaced (inner x)) in
+    let open_whole = fold-roll-Statement (Frame → Frame) Branch (effect fill (operand_of fill calls values)) branch_of x in
+    let middle : done fill calls values (layer_unplaced (inner x)) ≡ done fill calls values x = λ i frame. layer_same fill calls values y frame i in
+    ap (run fill calls values) bare_is ∙ open_bare ∙ middle ∙ sym open_whole
 
-abbrev ProvedItem : Calls → Values → Type 0
-ProvedItem calls values = CaseItem-F (With calls values) (WithItem calls values)
+abbrev ProvedItem : Bit → Calls → Values → Type 0
+ProvedItem fill calls values = CaseItem-F (With fill calls values) (WithItem fill calls values)
 
 abbrev with_body : List SizedExpr → (Frame → Frame) → Branch
 with_body labels body = record { labels = labels; body = body }
@@ -195,23 +195,23 @@ with_body labels body = record { labels = labels; body = body }
 abbrev item_layer : List SizedExpr → Statement → CaseItem-F Statement CaseItem
 item_layer labels body = record { labels = labels; body = body }
 
-rolled_item : (calls : Calls) (values : Values) (y : ProvedItem calls values)
-    → ItemSame calls values (roll-CaseItem (map-CaseItem (With calls values) (WithItem calls values) Statement CaseItem (λ s. s.0) (λ i. i.0) y))
+rolled_item : (fill : Bit) (calls : Calls) (values : Values) (y : ProvedItem fill calls values)
+    → ItemSame fill calls values (roll-CaseItem (map-CaseItem (With fill calls values) (WithItem fill calls values) Statement CaseItem (λ s. s.0) (λ i. i.0) y))
 unfolding run branch statement_unplaced
-rolled_item calls values y =
-    let x = map-CaseItem (With calls values) (WithItem calls values) Statement CaseItem (λ s. s.0) (λ i. i.0) y in
+rolled_item fill calls values y =
+    let x = map-CaseItem (With fill calls values) (WithItem fill calls values) Statement CaseItem (λ s. s.0) (λ i. i.0) y in
     let bare_is = fold-roll-CaseItem Statement CaseItem (λ x. roll-Statement (layer_unplaced x)) item_unplaced x in
-    let open_bare = fold-roll-CaseItem (Frame → Frame) Branch (effect (operand_of calls values)) branch_of (item_layer (map unplaced y.labels) (statement_unplaced y.body.0)) in
-    let open_whole = fold-roll-CaseItem (Frame → Frame) Branch (effect (operand_of calls values)) branch_of x in
-    ap (branch calls values) bare_is ∙ open_bare ∙ ap (with_body (map unplaced y.labels)) y.body.1 ∙ ap bare_branch (sym open_whole)
+    let open_bare = fold-roll-CaseItem (Frame → Frame) Branch (effect fill (operand_of fill calls values)) branch_of (item_layer (map unplaced y.labels) (statement_unplaced y.body.0)) in
+    let open_whole = fold-roll-CaseItem (Frame → Frame) Branch (effect fill (operand_of fill calls values)) branch_of x in
+    ap (branch fill calls values) bare_is ∙ open_bare ∙ ap (with_body (map unplaced y.labels)) y.body.1 ∙ ap bare_branch (sym open_whole)
 
-all_same : (calls : Calls) (values : Values) (s : Statement) → Same calls values s
-all_same calls values =
-    ind-Statement (Same calls values) (ItemSame calls values)
-    (λ x y is. let P : Layer → Type 0 = λ z. Same calls values (roll-Statement z) in subst P is (rolled calls values y))
-    (λ x y is. let P : CaseItem-F Statement CaseItem → Type 0 = λ z. ItemSame calls values (roll-CaseItem z) in subst P is (rolled_item calls values y))
+all_same : (fill : Bit) (calls : Calls) (values : Values) (s : Statement) → Same fill calls values s
+all_same fill calls values =
+    ind-Statement (Same fill calls values) (ItemSame fill calls values)
+    (λ x y is. let P : Layer → Type 0 = λ z. Same fill calls values (roll-Statement z) in subst P is (rolled fill calls values y))
+    (λ x y is. let P : CaseItem-F Statement CaseItem → Type 0 = λ z. ItemSame fill calls values (roll-CaseItem z) in subst P is (rolled_item fill calls values y))
 
 -- statements that are equal but for places do one thing
-pub run-unplaced : (calls : Calls) (values : Values) (s t : Statement) (frame : Frame) → statement_unplaced s ≡ statement_unplaced t → run calls values s frame ≡ run calls values t frame
-run-unplaced calls values s t frame h =
-    ap (λ (f : Frame → Frame). f frame) (sym (all_same calls values s) ∙ ap (run calls values) h ∙ all_same calls values t)
+pub run-unplaced : (fill : Bit) (calls : Calls) (values : Values) (s t : Statement) (frame : Frame) → statement_unplaced s ≡ statement_unplaced t → run fill calls values s frame ≡ run fill calls values t frame
+run-unplaced fill calls values s t frame h =
+    ap (λ (f : Frame → Frame). f frame) (sym (all_same fill calls values s) ∙ ap (run fill calls values) h ∙ all_same fill calls values t)

@@ -118,20 +118,20 @@ fold_inputs table start (input ∷ more) = fold_inputs table (table start input)
 abbrev pub latest : Bit → Bit → Bit
 latest earlier input = input
 
--- the input of a buffer or an inverter: the last terminal, x where there is none (7.3)
-abbrev pub last_input : List Bit → Bit
-last_input inputs = fold_inputs latest BX inputs
+-- the input of a buffer or an inverter: the last terminal, a bit that isn't there where there is none (7.3)
+abbrev pub last_input : Bit → List Bit → Bit
+last_input fill inputs = fold_inputs latest fill inputs
 
 -- the gates (7.2, 7.3)
-abbrev pub gate_bit : GateOp → List Bit → Bit
-gate_bit gate.And inputs = fold_inputs and_bit B1 inputs
-gate_bit gate.Nand inputs = not_bit (fold_inputs and_bit B1 inputs)
-gate_bit gate.Or inputs = fold_inputs or_bit B0 inputs
-gate_bit gate.Nor inputs = not_bit (fold_inputs or_bit B0 inputs)
-gate_bit gate.Xor inputs = fold_inputs xor_bit B0 inputs
-gate_bit gate.Xnor inputs = not_bit (fold_inputs xor_bit B0 inputs)
-gate_bit gate.Buf inputs = buf_bit (last_input inputs)
-gate_bit gate.Not inputs = not_bit (last_input inputs)
+abbrev pub gate_bit : Bit → GateOp → List Bit → Bit
+gate_bit fill gate.And inputs = fold_inputs and_bit B1 inputs
+gate_bit fill gate.Nand inputs = not_bit (fold_inputs and_bit B1 inputs)
+gate_bit fill gate.Or inputs = fold_inputs or_bit B0 inputs
+gate_bit fill gate.Nor inputs = not_bit (fold_inputs or_bit B0 inputs)
+gate_bit fill gate.Xor inputs = fold_inputs xor_bit B0 inputs
+gate_bit fill gate.Xnor inputs = not_bit (fold_inputs xor_bit B0 inputs)
+gate_bit fill gate.Buf inputs = buf_bit (last_input fill inputs)
+gate_bit fill gate.Not inputs = not_bit (last_input fill inputs)
 
 -- bits, so many times one behind the other (5.1.14)
 unfoldable pub repeated : ℕ → List Bit → List Bit
@@ -139,33 +139,33 @@ repeated zero bits = []
 repeated (suc n) bits = repeated n bits ++ bits
 
 -- the value of a kind of expression at a size and sign, with the operands' values in their places
-abbrev pub kind_bits : Calls → Values → Frame → SizedKind-F (ℕ → Bool → List Bit) Operand → ℕ → Bool → List Bit
-kind_bits calls values frame (SizedKind-F.Number bits) width signed = bits
-kind_bits calls values frame (SizedKind-F.Name name) width signed = named_bits values frame name
-kind_bits calls values frame (SizedKind-F.Select name low count) width signed = select_bits low (bounded count) (named_bits values frame name)
-kind_bits calls values frame (SizedKind-F.Index name least index) width signed = bit_at_place (named_bits values frame name) (index_place least index.bits)
-kind_bits calls values frame (SizedKind-F.Word memory place) width signed = word_or_x (bounded memory.width) (values.word memory.number place)
-kind_bits calls values frame (SizedKind-F.WordIndex memory least index) width signed = word_or_x (bounded memory.width) (word_at values memory.number (index_place least index.bits))
-kind_bits calls values frame (SizedKind-F.Unary op a) width signed = unary_bits op (at_size width signed a.bits)
-kind_bits calls values frame (SizedKind-F.Binary op a b) width signed = binary_bits op (at_size width signed a.bits) (at_size width signed b.bits)
-kind_bits calls values frame (SizedKind-F.Comparison op a b) width signed = compared op a b ∷ []
-kind_bits calls values frame (SizedKind-F.LogicalNot a) width signed = not_bit (truth_bit a.bits) ∷ []
-kind_bits calls values frame (SizedKind-F.Logical op a b) width signed = logical_bit op (truth_bit a.bits) (truth_bit b.bits) ∷ []
-kind_bits calls values frame (SizedKind-F.Reduction op a) width signed = reduction_bit op a.bits ∷ []
-kind_bits calls values frame (SizedKind-F.Shift op a amount) width signed = shift_bits op signed amount.bits (at_size width signed a.bits)
-kind_bits calls values frame (SizedKind-F.Conditional test a b) width signed = choose_bits (truth_bit test.bits) (at_size width signed a.bits) (at_size width signed b.bits)
-kind_bits calls values frame (SizedKind-F.Concat parts) width signed = flat_map (λ part. part.bits) parts
-kind_bits calls values frame (SizedKind-F.Replicate count a) width signed = repeated count a.bits
-kind_bits calls values frame (SizedKind-F.Call n arguments) width signed = calls n arguments
-kind_bits calls values frame (SizedKind-F.Gate op inputs) width signed = gate_bit op (flat_map (λ input. at_size 1 false input.bits) inputs) ∷ []
+abbrev pub kind_bits : Bit → Calls → Values → Frame → SizedKind-F (ℕ → Bool → List Bit) Operand → ℕ → Bool → List Bit
+kind_bits fill calls values frame (SizedKind-F.Number bits) width signed = bits
+kind_bits fill calls values frame (SizedKind-F.Name name) width signed = named_bits fill values frame name
+kind_bits fill calls values frame (SizedKind-F.Select name low count) width signed = select_bits fill low (bounded count) (named_bits fill values frame name)
+kind_bits fill calls values frame (SizedKind-F.Index name least index) width signed = bit_at_place fill (named_bits fill values frame name) (index_place least index.bits)
+kind_bits fill calls values frame (SizedKind-F.Word memory place) width signed = word_or_x fill (bounded memory.width) (values.word memory.number place)
+kind_bits fill calls values frame (SizedKind-F.WordIndex memory least index) width signed = word_or_x fill (bounded memory.width) (word_at values memory.number (index_place least index.bits))
+kind_bits fill calls values frame (SizedKind-F.Unary op a) width signed = unary_bits op (at_size width signed a.bits)
+kind_bits fill calls values frame (SizedKind-F.Binary op a b) width signed = binary_bits op (at_size width signed a.bits) (at_size width signed b.bits)
+kind_bits fill calls values frame (SizedKind-F.Comparison op a b) width signed = compared op a b ∷ []
+kind_bits fill calls values frame (SizedKind-F.LogicalNot a) width signed = not_bit (truth_bit a.bits) ∷ []
+kind_bits fill calls values frame (SizedKind-F.Logical op a b) width signed = logical_bit op (truth_bit a.bits) (truth_bit b.bits) ∷ []
+kind_bits fill calls values frame (SizedKind-F.Reduction op a) width signed = reduction_bit op a.bits ∷ []
+kind_bits fill calls values frame (SizedKind-F.Shift op a amount) width signed = shift_bits op signed amount.bits (at_size width signed a.bits)
+kind_bits fill calls values frame (SizedKind-F.Conditional test a b) width signed = choose_bits (truth_bit test.bits) (at_size width signed a.bits) (at_size width signed b.bits)
+kind_bits fill calls values frame (SizedKind-F.Concat parts) width signed = flat_map (λ part. part.bits) parts
+kind_bits fill calls values frame (SizedKind-F.Replicate count a) width signed = repeated count a.bits
+kind_bits fill calls values frame (SizedKind-F.Call n arguments) width signed = calls n arguments
+kind_bits fill calls values frame (SizedKind-F.Gate op inputs) width signed = gate_bit fill op (flat_map (λ input. at_size 1 false input.bits) inputs) ∷ []
 
 -- an expression's value at its size and sign
 abbrev pub sized_operand : SizedExpr-F (ℕ → Bool → List Bit) Operand → Operand
 sized_operand e = record { bits = at_size e.width e.signed (e.kind e.width e.signed); signed = e.signed }
 
-unfoldable pub operand_of : Calls → Values → Frame → SizedExpr → Operand
-operand_of calls values frame e = fold-SizedExpr (ℕ → Bool → List Bit) Operand (kind_bits calls values frame) sized_operand e
+unfoldable pub operand_of : Bit → Calls → Values → Frame → SizedExpr → Operand
+operand_of fill calls values frame e = fold-SizedExpr (ℕ → Bool → List Bit) Operand (kind_bits fill calls values frame) sized_operand e
 
 -- the value of an expression, where a call gives what `calls` says
-abbrev pub bits_of_expr : Calls → Values → Frame → SizedExpr → List Bit
-bits_of_expr calls values frame e = (operand_of calls values frame e).bits
+abbrev pub bits_of_expr : Bit → Calls → Values → Frame → SizedExpr → List Bit
+bits_of_expr fill calls values frame e = (operand_of fill calls values frame e).bits

@@ -1,5 +1,6 @@
 -- What an expression can read of signals and memory words.
 use Rattle.std.specs.Prelude.{◌≡◌, ℕ, List, [], ◌∷◌, ◌++◌, flat_map}
+use Rattle.vod_bits.specs.Bit.{Bit}
 use Rattle.vod_design.specs.declared.read.Read.{Read}
 use Rattle.vod_design.specs.declared.read.Read.TheVariants.{Whole, Bits, Word, Ram}
 use Rattle.vod_design.specs.declared.sized.Variable.TheVariants.{Signal, Local}
@@ -46,8 +47,8 @@ unfoldable pub reads : SizedExpr → List Read
 reads e = fold-SizedExpr (List Read) (List Read) kind_reads (λ e. e.kind) e
 
 -- two environments give one value to what is read
-abbrev pub Agree : Values → Values → Read → Type 0
-Agree u v (Whole n) = u.signal n ≡ v.signal n
-Agree u v (Bits n low width) = select_bits low (bounded width) (u.signal n) ≡ select_bits low (bounded width) (v.signal n)
-Agree u v (Word memory place) = u.word memory place ≡ v.word memory place
-Agree u v (Ram memory) = (place : ℕ) → u.word memory place ≡ v.word memory place
+abbrev pub Agree : Bit → Values → Values → Read → Type 0
+Agree fill u v (Whole n) = u.signal n ≡ v.signal n
+Agree fill u v (Bits n low width) = select_bits fill low (bounded width) (u.signal n) ≡ select_bits fill low (bounded width) (v.signal n)
+Agree fill u v (Word memory place) = u.word memory place ≡ v.word memory place
+Agree fill u v (Ram memory) = (place : ℕ) → u.word memory place ≡ v.word memory place

@@ -1,7 +1,7 @@
 -- What a statement of a function does, and the value that a call gives (IEEE 1364-2005, 9.2 to 9.5, 10.4).
 use Rattle.std.specs.Prelude.{Bool, ℕ, zero, suc, ◌+◌, ◌-◌, nat_le, max, ◌==◌, if◌then◌else◌, List, [], ◌∷◌, ◌++◌, length, map, flat_map, take, drop, slice_get, slice_set, Option, None, Some}
 use Rattle.std.specs.List.{list_any, list_all}
-use Rattle.vod_bits.specs.Bit.{Bit, BX, is_1}
+use Rattle.vod_bits.specs.Bit.{Bit, is_1}
 use Rattle.vod_four.specs.Four.{truth_bit}
 use Rattle.vod_design.specs.declared.sized.SizedExpr.{SizedExpr}
 use Rattle.vod_design.specs.declared.sized.Variable.{Variable}
@@ -23,11 +23,11 @@ pub data Target : Type 0 where
   Bits : Variable → ℕ → Target
   Word : ℕ → ℕ → Target
 
--- the index of a part, x where it has none
-abbrev pub index_bits : (SizedExpr → Operand) → PartTarget → List Bit
-index_bits value (part.Bits x low) = BX ∷ []
-index_bits value (part.Index x least index) = (value index).bits
-index_bits value (part.Word memory least index) = (value index).bits
+-- the index of a part, a bit that isn't there where it has none
+abbrev pub index_bits : Bit → (SizedExpr → Operand) → PartTarget → List Bit
+index_bits fill value (part.Bits x low) = fill ∷ []
+index_bits fill value (part.Index x least index) = (value index).bits
+index_bits fill value (part.Word memory least index) = (value index).bits
 
 -- the place that a part writes where its index has a value: none where a bit of it is x or z
 abbrev pub at_index : (ℕ → Target) → Option ℕ → Option Target
@@ -45,18 +45,18 @@ replace_bits low new old =
     if nat_le (low + length new) (length old) then take (length old - (low + length new)) old ++ new ++ drop (length old - low) old else old
 
 -- what a function's variables are after bits were assigned to a place; it has no others
-abbrev pub written : Option Target → List Bit → Frame → Frame
-written None new frame = frame
-written (Some (Bits (Signal n) low)) new frame = frame
-written (Some (Bits (Local n) low)) new frame = slice_set frame n (replace_bits low new (value_at frame n))
-written (Some (Word memory place)) new frame = frame
+abbrev pub written : Bit → Option Target → List Bit → Frame → Frame
+written fill None new frame = frame
+written fill (Some (Bits (Signal n) low)) new frame = frame
+written fill (Some (Bits (Local n) low)) new frame = slice_set frame n (replace_bits low new (value_at fill frame n))
+written fill (Some (Word memory place)) new frame = frame
 
 -- the parts of a left side, from the left, each with the value of its index, take their bits of a value (9.2.1)
-abbrev pub assigned : List Part → List (List Bit) → List Bit → Frame → Frame
-assigned [] indices value frame = frame
-assigned (p ∷ parts) [] value frame = frame
-assigned (p ∷ parts) (index ∷ indices) value frame =
-    assigned parts indices value (written (target_of p.target index) (select_bits p.low (bounded p.width) value) frame)
+abbrev pub assigned : Bit → List Part → List (List Bit) → List Bit → Frame → Frame
+assigned fill [] indices value frame = frame
+assigned fill (p ∷ parts) [] value frame = frame
+assigned fill (p ∷ parts) (index ∷ indices) value frame =
+    assigned fill parts indices value (written fill (target_of p.target index) (select_bits fill p.low (bounded p.width) value) frame)
 
 -- one statement after the other
 abbrev pub in_turn : List (Frame → Frame) → Frame → Frame
@@ -99,48 +99,48 @@ case_branch value tested items otherwise =
     first_branch (λ e. at_largest (compared_in tested items) (value e).bits) (at_largest (compared_in tested items) (value tested).bits) items otherwise
 
 -- what a statement does to a function's variables. The indices of a left side are evaluated before its parts are written
-abbrev pub effect : (Frame → SizedExpr → Operand) → Statement-F (Frame → Frame) Branch → Frame → Frame
-effect value (Statement-F.Assign parts right) frame = assigned parts (map (λ p. index_bits (value frame) p.target) parts) (value frame right).bits frame
-effect value (Statement-F.If test taken other) frame = (if is_1 (truth_bit (value frame test).bits) then taken else other) frame
-effect value (Statement-F.Case tested items otherwise) frame = case_branch (value frame) tested items otherwise frame
-effect value (Statement-F.Begin statements) frame = in_turn statements frame
-effect value Statement-F.Empty frame = frame
+abbrev pub effect : Bit → (Frame → SizedExpr → Operand) → Statement-F (Frame → Frame) Branch → Frame → Frame
+effect fill value (Statement-F.Assign parts right) frame = assigned fill parts (map (λ p. index_bits fill (value frame) p.target) parts) (value frame right).bits frame
+effect fill value (Statement-F.If test taken other) frame = (if is_1 (truth_bit (value frame test).bits) then taken else other) frame
+effect fill value (Statement-F.Case tested items otherwise) frame = case_branch (value frame) tested items otherwise frame
+effect fill value (Statement-F.Begin statements) frame = in_turn statements frame
+effect fill value Statement-F.Empty frame = frame
 
 abbrev pub branch_of : CaseItem-F (Frame → Frame) Branch → Branch
 branch_of item = record { labels = item.labels; body = item.body }
 
-unfoldable pub run : Calls → Values → Statement → Frame → Frame
-run calls values s = fold-Statement (Frame → Frame) Branch (effect (operand_of calls values)) branch_of s
+unfoldable pub run : Bit → Calls → Values → Statement → Frame → Frame
+run fill calls values s = fold-Statement (Frame → Frame) Branch (effect fill (operand_of fill calls values)) branch_of s
 
-unfoldable pub branch : Calls → Values → CaseItem → Branch
-branch calls values item = fold-CaseItem (Frame → Frame) Branch (effect (operand_of calls values)) branch_of item
+unfoldable pub branch : Bit → Calls → Values → CaseItem → Branch
+branch fill calls values item = fold-CaseItem (Frame → Frame) Branch (effect fill (operand_of fill calls values)) branch_of item
 
 -- A function's body sees the function's variables alone: no signal and no memory word has a value there (10.4.4).
-abbrev pub nothing : Values
-nothing = record { signal = λ n. BX ∷ []; word = λ memory place. None }
+abbrev pub nothing : Bit → Values
+nothing fill = record { signal = λ n. fill ∷ []; word = λ memory place. None }
 
--- A call assigns each argument to its input (10.4.3); an input without one is x
-abbrev pub entered : List Size → List Operand → Frame
-entered [] arguments = []
-entered (input ∷ inputs) [] = unknown (bounded input.width) ∷ entered inputs []
-entered (input ∷ inputs) (a ∷ arguments) = at_size input.width a.signed a.bits ∷ entered inputs arguments
+-- A call assigns each argument to its input (10.4.3); an input without one has bits that aren't there
+abbrev pub entered : Bit → List Size → List Operand → Frame
+entered fill [] arguments = []
+entered fill (input ∷ inputs) [] = unknown fill (bounded input.width) ∷ entered fill inputs []
+entered fill (input ∷ inputs) (a ∷ arguments) = at_size input.width a.signed a.bits ∷ entered fill inputs arguments
 
--- a function's variables as it is entered: the inputs, then the locals and the result, which are x
-abbrev pub frame_of : Function → List Operand → Frame
-frame_of f arguments = entered f.inputs arguments ++ map (λ l. unknown (bounded l.width)) f.locals ++ unknown (bounded f.width) ∷ []
+-- a function's variables as it is entered: the inputs, then the locals and the result, whose bits aren't there yet
+abbrev pub frame_of : Bit → Function → List Operand → Frame
+frame_of fill f arguments = entered fill f.inputs arguments ++ map (λ l. unknown fill (bounded l.width)) f.locals ++ unknown fill (bounded f.width) ∷ []
 
 -- the value of a call: that of the result after the body
-abbrev pub result_of : Calls → Option Function → List Operand → List Bit
-result_of calls None arguments = BX ∷ []
-result_of calls (Some f) arguments = value_at (run calls nothing f.body (frame_of f arguments)) (length f.inputs + length f.locals)
+abbrev pub result_of : Bit → Calls → Option Function → List Operand → List Bit
+result_of fill calls None arguments = fill ∷ []
+result_of fill calls (Some f) arguments = value_at fill (run fill calls (nothing fill) f.body (frame_of fill f arguments)) (length f.inputs + length f.locals)
 
 -- the value of a call where the first k functions may be called: each calls those before it alone (10.4.4)
-abbrev pub call_below : List Function → ℕ → Calls
-call_below functions zero n arguments = BX ∷ []
-call_below functions (suc k) n arguments =
-    if n == k then result_of (call_below functions k) (slice_get functions k) arguments else call_below functions k n arguments
+abbrev pub call_below : Bit → List Function → ℕ → Calls
+call_below fill functions zero n arguments = fill ∷ []
+call_below fill functions (suc k) n arguments =
+    if n == k then result_of fill (call_below fill functions k) (slice_get functions k) arguments else call_below fill functions k n arguments
 
--- the value of an expression, given the functions, the values of signals and memory words, and those of the variables of the
--- function that it stands in
-unfoldable pub eval : List Function → Values → Frame → SizedExpr → List Bit
-eval functions values frame e = (operand_of (call_below functions (length functions)) values frame e).bits
+-- the value of an expression, given what a bit is that isn't there (x where values have four states), the functions, the values of
+-- signals and memory words, and those of the variables of the function that it stands in
+unfoldable pub eval : Bit → List Function → Values → Frame → SizedExpr → List Bit
+eval fill functions values frame e = (operand_of fill (call_below fill functions (length functions)) values frame e).bits

@@ -1,5 +1,6 @@
 //! Expressions with the size and sign at which each part is evaluated (IEEE 1364-2005, clause 5).
 ghost use Rattle.std.specs.Prelude.{◌≡◌, List, All};
+ghost use Rattle.vod_bits.specs.Bit.{Bit};
 ghost use Rattle.vod_design.specs.declared.statement.Function.{Function};
 ghost use Rattle.vod_design.specs.Values.{Values, Frame};
 ghost use Rattle.vod_design.specs.Run.{eval};
@@ -183,13 +184,14 @@ pub enum SizedKind {
     Gate(GateOp, Items<SizedExpr>),
 }
 
-/// An expression's value hangs on what it reads alone: the values of a function's variables aside, two environments that agree on
-/// that give it one value.
+/// An expression's value hangs on what it reads alone, whatever stands for a bit that isn't there: the values of a function's
+/// variables aside, two environments that agree on that give it one value.
 pub fn value_hangs_on_reads()
-    ensures { (functions : List Function) (u v : Values) (frame : Frame) (e : SizedExpr) → All (Agree u v) (reads e) → eval functions u frame e ≡ eval functions v frame e }
+    ensures { (fill : Bit) (functions : List Function) (u v : Values) (frame : Frame) (e : SizedExpr) → All (Agree fill u v) (reads e) → eval fill functions u frame e ≡ eval fill functions v frame e }
 {}
 
-/// An expression's value doesn't hang on places: two expressions that are equal but for these have one value.
+/// An expression's value doesn't hang on places, whatever stands for a bit that isn't there: two expressions that are equal but for
+/// these have one value.
 pub fn value_forgets_places()
-    ensures { (functions : List Function) (values : Values) (frame : Frame) (a b : SizedExpr) → unplaced a ≡ unplaced b → eval functions values frame a ≡ eval functions values frame b }
+    ensures { (fill : Bit) (functions : List Function) (values : Values) (frame : Frame) (a b : SizedExpr) → unplaced a ≡ unplaced b → eval fill functions values frame a ≡ eval fill functions values frame b }
 {}

@@ -1,5 +1,6 @@
 //! The statements of blocks and functions, and the functions (IEEE 1364-2005, 9.2 to 9.5, 10.4).
 ghost use Rattle.std.specs.Prelude.{◌≡◌};
+ghost use Rattle.vod_bits.specs.Bit.{Bit};
 ghost use Rattle.vod_design.specs.Values.{Values, Frame};
 ghost use Rattle.vod_design.specs.Eval.{Calls};
 ghost use Rattle.vod_design.specs.Run.{run};
@@ -54,9 +55,10 @@ pub struct CaseItem {
     pub body: Statement,
 }
 
-/// What a statement does doesn't hang on places: two statements that are equal but for these do one thing.
+/// What a statement does doesn't hang on places, whatever stands for a bit that isn't there: two statements that are equal but for
+/// these do one thing.
 pub fn run_forgets_places()
-    ensures { (calls : Calls) (values : Values) (s t : Statement) (frame : Frame) → statement_unplaced s ≡ statement_unplaced t → run calls values s frame ≡ run calls values t frame }
+    ensures { (fill : Bit) (calls : Calls) (values : Values) (s t : Statement) (frame : Frame) → statement_unplaced s ≡ statement_unplaced t → run fill calls values s frame ≡ run fill calls values t frame }
 {}
 
 /// What a block or a function does, which contracts see as the statement.

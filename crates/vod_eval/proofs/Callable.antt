@@ -4,7 +4,7 @@ use Rattle.std.proofs.Math.Nat.{mul-le-mul_right}
 use Rattle.std.proofs.lemmas.List.{get_or_read}
 use Rattle.std.proofs.lemmas.Bool.{lt-ltb, le-ltb, ltb-true}
 use Rattle.std.proofs.lemmas.Bool.Decides.{eqb_tells, nat_tests}
-use Rattle.vod_bits.specs.Bit.{Bit, B0, B1, BX, BZ, is_1, not_bit}
+use Rattle.vod_bits.specs.Bit.{Bit}
 use Rattle.vod_design.specs.declared.sized.SizedExpr.{SizedExpr}
 use Rattle.vod_design.specs.declared.statement.Function.{Function}
 use Rattle.vod_design.specs.declared.statement.Part.{Part}
@@ -32,10 +32,10 @@ step_found G get k n y h = elim (eqb_tells n k) [ inl e ↦ rw e.0 (same_found G
 none_found : {X O : Type 0} (G : ℕ → Option O → X) (get : ℕ → Option O) (n : ℕ) → G n None ≡ G n (cond (nat_lt n 0) (get n) None)
 none_found G get n = let e : nat_lt n 0 ≡ false = le-ltb n 0 (omega arith) in rw e refl
 
-pub calls_at : (functions : List Function) (k n : ℕ) (arguments : List Operand) → call_below functions k n arguments ≡ result_of (call_below functions n) (found functions k n) arguments
-calls_at functions zero n arguments = none_found (λ m o. result_of (call_below functions m) o arguments) (slice_get functions) n
-calls_at functions (suc k) n arguments =
-    step_found (λ m o. result_of (call_below functions m) o arguments) (slice_get functions) k n (call_below functions k n arguments) (calls_at functions k n arguments)
+pub calls_at : (fill : Bit) (functions : List Function) (k n : ℕ) (arguments : List Operand) → call_below fill functions k n arguments ≡ result_of fill (call_below fill functions n) (found functions k n) arguments
+calls_at fill functions zero n arguments = none_found (λ m o. result_of fill (call_below fill functions m) o arguments) (slice_get functions) n
+calls_at fill functions (suc k) n arguments =
+    step_found (λ m o. result_of fill (call_below fill functions m) o arguments) (slice_get functions) k n (call_below fill functions k n arguments) (calls_at fill functions k n arguments)
 
 pub rooms_at : (functions : List Function) (k n : ℕ) → call_room functions k n ≡ function_room (call_room functions n) (found functions k n)
 rooms_at functions zero n = none_found (λ m o. function_room (call_room functions m) o) (slice_get functions) n
@@ -58,34 +58,28 @@ most_get f (y ∷ xs) (suc n) x h = let more : f x ≤ most (map f xs) = most_ge
 pub below_base : (n k b m : ℕ) → n < k → m < b → n * b + m < k * b
 below_base n k b m h l = omega (arith, mul-le-mul_right b h)
 
-pub operand_back : (calls : Calls) (values : Values) (frame : Frame) (e : SizedExpr) → operand (operand_of calls values frame e).bits e.signed ≡ operand_of calls values frame e
-operand_back calls values frame e = ap (λ s. operand (operand_of calls values frame e).bits s) (sym (sign_of calls values frame e))
+pub operand_back : (fill : Bit) (calls : Calls) (values : Values) (frame : Frame) (e : SizedExpr) → operand (operand_of fill calls values frame e).bits e.signed ≡ operand_of fill calls values frame e
+operand_back fill calls values frame e = ap (λ s. operand (operand_of fill calls values frame e).bits s) (sym (sign_of fill calls values frame e))
 
-pub signs_back : (calls : Calls) (values : Values) (frame : Frame) (es : List SizedExpr)
-    → with_signs (map (λ e. (operand_of calls values frame e).bits) es) es ≡ map (operand_of calls values frame) es
-signs_back calls values frame [] = refl
-signs_back calls values frame (e ∷ es) =
-    let head : operand (operand_of calls values frame e).bits e.signed ≡ operand_of calls values frame e = operand_back calls values frame e in
-    let more : with_signs (map (λ e. (operand_of calls values frame e).bits) es) es ≡ map (operand_of calls values frame) es = signs_back calls values frame es in
+pub signs_back : (fill : Bit) (calls : Calls) (values : Values) (frame : Frame) (es : List SizedExpr)
+    → with_signs (map (λ e. (operand_of fill calls values frame e).bits) es) es ≡ map (operand_of fill calls values frame) es
+signs_back fill calls values frame [] = refl
+signs_back fill calls values frame (e ∷ es) =
+    let head : operand (operand_of fill calls values frame e).bits e.signed ≡ operand_of fill calls values frame e = operand_back fill calls values frame e in
+    let more : with_signs (map (λ e. (operand_of fill calls values frame e).bits) es) es ≡ map (operand_of fill calls values frame) es = signs_back fill calls values frame es in
     cc
 
 -- the parts take no more indices than they are
-pub assigned_take : (parts : List Part) (indices : List (List Bit)) (value : List Bit) (frame : Frame) → assigned parts indices value frame ≡ assigned parts (take (length parts) indices) value frame
-assigned_take [] indices value frame = refl
-assigned_take (p ∷ parts) [] value frame = refl
-assigned_take (p ∷ parts) (index ∷ indices) value frame = assigned_take parts indices value (written (target_of p.target index) (select_bits p.low (bounded p.width) value) frame)
-
-pub twice_not : (b : Bit) → is_1 (not_bit (not_bit b)) ≡ is_1 b
-twice_not B0 = refl
-twice_not B1 = refl
-twice_not BX = refl
-twice_not BZ = refl
+pub assigned_take : (fill : Bit) (parts : List Part) (indices : List (List Bit)) (value : List Bit) (frame : Frame) → assigned fill parts indices value frame ≡ assigned fill parts (take (length parts) indices) value frame
+assigned_take fill [] indices value frame = refl
+assigned_take fill (p ∷ parts) [] value frame = refl
+assigned_take fill (p ∷ parts) (index ∷ indices) value frame = assigned_take fill parts indices value (written fill (target_of p.target index) (select_bits fill p.low (bounded p.width) value) frame)
 
 -- the value of a call, where the function's body was run over its variables
-pub call_value : (functions : List Function) (k n : ℕ) (arguments : List Operand) (f : Function) (frame entry : Frame) (index : ℕ) (r : List Bit) → found functions k n ≡ Some f
-    → entry ≡ frame_of f arguments → frame ≡ run (call_below functions n) nothing f.body entry → index ≡ length f.inputs + length f.locals → r ≡ get_or frame index r → index < length frame
-    → r ≡ call_below functions k n arguments
-call_value functions k n arguments f frame entry index r h e g i is l =
-    get_or_read frame index r l is (BX ∷ []) ∙ ap (λ xs. get_or xs index (BX ∷ [])) (g ∙ ap (run (call_below functions n) nothing f.body) e)
-    ∙ ap (λ m. get_or (run (call_below functions n) nothing f.body (frame_of f arguments)) m (BX ∷ [])) i
-    ∙ sym (calls_at functions k n arguments ∙ ap (λ o. result_of (call_below functions n) o arguments) h)
+pub call_value : (fill : Bit) (functions : List Function) (k n : ℕ) (arguments : List Operand) (f : Function) (frame entry : Frame) (index : ℕ) (r : List Bit) → found functions k n ≡ Some f
+    → entry ≡ frame_of fill f arguments → frame ≡ run fill (call_below fill functions n) (nothing fill) f.body entry → index ≡ length f.inputs + length f.locals → r ≡ get_or frame index r → index < length frame
+    → r ≡ call_below fill functions k n arguments
+call_value fill functions k n arguments f frame entry index r h e g i is l =
+    get_or_read frame index r l is (fill ∷ []) ∙ ap (λ xs. get_or xs index (fill ∷ [])) (g ∙ ap (run fill (call_below fill functions n) (nothing fill) f.body) e)
+    ∙ ap (λ m. get_or (run fill (call_below fill functions n) (nothing fill) f.body (frame_of fill f arguments)) m (fill ∷ [])) i
+    ∙ sym (calls_at fill functions k n arguments ∙ ap (λ o. result_of fill (call_below fill functions n) o arguments) h)

@@ -4,7 +4,7 @@ use Rattle.std.proofs.lemmas.List.{append-nil, length-append, length-drop, repli
 use Rattle.std.proofs.lemmas.Bool.{cases_lt}
 use Rattle.std.specs.Cmp.Lexicographic.{pointwise, pointwise_decides}
 use Rattle.vod_bits.specs.Bit.{Bit, B0, B1, BX, BZ, is_1, bit_if}
-use Rattle.vod_bits.specs.Value.{resize_bits, slice_bits, upper_bit}
+use Rattle.vod_bits.specs.Value.{resize_bits, slice_bits}
 use Rattle.vod_bits.specs.Lengths.{resize_length}
 use Rattle.vod_bits.specs.declared.TheConstants.{WIDTH}
 use Rattle.vod_design.specs.Values.{bounded, at_size, unknown, select_bits}
@@ -16,10 +16,10 @@ use Rattle.vod_eval.specs.Pieces.{bits_of_option, filled_bits, lowest}
 pub copies_last : (b : Bit) (n : ℕ) → 1 ≤ n → replicate (n - 1) b ++ b ∷ [] ≡ replicate n b
 copies_last b n h = let e : n - 1 + 1 ≡ n = omega arith in replicate-append-replicate (n - 1) 1 b ∙ ap (λ k. replicate k b) e
 
--- one bit of x, extended by itself
-pub stretch_x : (n : ℕ) → 1 ≤ n → resize_bits n true (BX ∷ []) ≡ replicate n BX
+-- one bit, extended by itself
+pub stretch : (b : Bit) (n : ℕ) → 1 ≤ n → resize_bits n true (b ∷ []) ≡ replicate n b
 unfolding resize_bits
-stretch_x n h = let e : 1 - n ≡ 0 = omega arith in rw e (copies_last BX n h)
+stretch b n h = let e : 1 - n ≡ 0 = omega arith in rw e (copies_last b n h)
 
 pub stretch_0 : (n : ℕ) (signed : Bool) → 1 ≤ n → resize_bits n signed (B0 ∷ []) ≡ replicate n B0
 unfolding resize_bits
@@ -94,13 +94,13 @@ lower_slice n xs h =
     let len : length (drop (length xs - n) xs) ≤ n = omega (arith, length-drop (length xs - n) xs) in
     rw e (take_all n (drop (length xs - n) xs) len)
 
-pub select_inside : (low width : ℕ) (xs : List Bit) → low + width ≤ length xs → select_bits low width xs ≡ slice_bits low width xs
+pub select_inside : (fill : Bit) (low width : ℕ) (xs : List Bit) → low + width ≤ length xs → select_bits fill low width xs ≡ slice_bits low width xs
 unfolding select_bits
-select_inside low width xs h = grind (arith)
+select_inside fill low width xs h = grind (arith)
 
-pub select_outside : (low width : ℕ) (xs : List Bit) → length xs < low + width → select_bits low width xs ≡ unknown width
+pub select_outside : (fill : Bit) (low width : ℕ) (xs : List Bit) → length xs < low + width → select_bits fill low width xs ≡ unknown fill width
 unfolding select_bits
-select_outside low width xs h = grind (arith)
+select_outside fill low width xs h = grind (arith)
 
 pub replace_inside : (low : ℕ) (new old : List Bit) → low + length new ≤ length old → replace_bits low new old ≡ take (length old - (low + length new)) old ++ new ++ drop (length old - low) old
 unfolding replace_bits
@@ -139,13 +139,12 @@ pub identical_is : (r : Bool) (xs ys : List Bit) → (IsTrue r ↔ (xs ≡ ys)) 
 unfolding identical_bit
 identical_is r xs ys e = ap bit_if (decided r (pointwise same_bit xs ys) (xs ≡ ys) e (pointwise_decides same_bits xs ys))
 
-pub one_is : (r : Bool) (xs : List Bit) → length xs ≡ 1 → (IsTrue r ↔ (xs ≡ B1 ∷ [])) → r ≡ is_1 (upper_bit xs)
-one_is r [] h e = absurd (omega arith)
-one_is r (x ∷ y ∷ xs) h e = absurd (omega arith)
-one_is r (B1 ∷ []) h e = decided r true (B1 ∷ [] ≡ B1 ∷ []) e (λ _. refl, λ _. refl)
-one_is r (B0 ∷ []) h e = decided r false (B0 ∷ [] ≡ B1 ∷ []) e (λ h. absurd (cc), λ h. absurd (cc))
-one_is r (BX ∷ []) h e = decided r false (BX ∷ [] ≡ B1 ∷ []) e (λ h. absurd (cc), λ h. absurd (cc))
-one_is r (BZ ∷ []) h e = decided r false (BZ ∷ [] ≡ B1 ∷ []) e (λ h. absurd (cc), λ h. absurd (cc))
+back_if : (r : Bool) → r ≡ is_1 (bit_if r)
+back_if true = refl
+back_if false = refl
+
+pub same_is : (r : Bool) (xs ys : List Bit) → (IsTrue r ↔ (xs ≡ ys)) → r ≡ is_1 (identical_bit xs ys)
+same_is r xs ys e = back_if r ∙ ap is_1 (identical_is r xs ys e)
 
 pub repeated_more : (n : ℕ) (bits : List Bit) → lowest (lowest (repeated n bits) ++ bits) ≡ lowest (repeated (suc n) bits)
 unfolding repeated

@@ -65,5 +65,5 @@ item_depth item = fold-CaseItem ℕ ℕ effect_depth item_step item
 abbrev pub bodies_depth : List Function → ℕ
 bodies_depth functions = most (map (λ f. statement_depth f.body) functions)
 
-abbrev pub base : Scene → ℕ
+abbrev pub base : {T : Type 0} → Scene T → ℕ
 base s = s.limit * (5 * bodies_depth s.functions.now + 3)

@@ -8,24 +8,24 @@ use Rattle.vod_design.specs.Values.{Operand}
 use Rattle.vod_design.specs.Run.{entered}
 use Rattle.vod_eval.specs.Scenes.{operand, with_signs, input_bits}
 
-pub entered_length : (inputs : List Size) (arguments : List Operand) → length (entered inputs arguments) ≡ length inputs
-entered_length [] arguments = refl
-entered_length (x ∷ xs) [] = ap suc (entered_length xs [])
-entered_length (x ∷ xs) (a ∷ arguments) = ap suc (entered_length xs arguments)
+pub entered_length : (fill : Bit) (inputs : List Size) (arguments : List Operand) → length (entered fill inputs arguments) ≡ length inputs
+entered_length fill [] arguments = refl
+entered_length fill (x ∷ xs) [] = ap suc (entered_length fill xs [])
+entered_length fill (x ∷ xs) (a ∷ arguments) = ap suc (entered_length fill xs arguments)
 
 -- one input more
-entered_next : (inputs : List Size) (arguments : List Operand) (i : ℕ) (d : Size) → i < length inputs
-    → entered (take (suc i) inputs) arguments ≡ entered (take i inputs) arguments ++ input_bits (get_or inputs i d) (slice_get arguments i) ∷ []
-entered_next [] arguments i d h = absurd (omega arith)
-entered_next (x ∷ xs) [] zero d h = refl
-entered_next (x ∷ xs) (a ∷ arguments) zero d h = refl
-entered_next (x ∷ xs) [] (suc i) d h = ap (λ ys. input_bits x None ∷ ys) (entered_next xs [] i d (omega arith))
-entered_next (x ∷ xs) (a ∷ arguments) (suc i) d h = ap (λ ys. input_bits x (Some a) ∷ ys) (entered_next xs arguments i d (omega arith))
+entered_next : (fill : Bit) (inputs : List Size) (arguments : List Operand) (i : ℕ) (d : Size) → i < length inputs
+    → entered fill (take (suc i) inputs) arguments ≡ entered fill (take i inputs) arguments ++ input_bits fill (get_or inputs i d) (slice_get arguments i) ∷ []
+entered_next fill [] arguments i d h = absurd (omega arith)
+entered_next fill (x ∷ xs) [] zero d h = refl
+entered_next fill (x ∷ xs) (a ∷ arguments) zero d h = refl
+entered_next fill (x ∷ xs) [] (suc i) d h = ap (λ ys. input_bits fill x None ∷ ys) (entered_next fill xs [] i d (omega arith))
+entered_next fill (x ∷ xs) (a ∷ arguments) (suc i) d h = ap (λ ys. input_bits fill x (Some a) ∷ ys) (entered_next fill xs arguments i d (omega arith))
 
-pub entered_more : (inputs : List Size) (arguments : List Operand) (i : ℕ) (x : Size) (v : List Bit) → x ≡ get_or inputs i x → i < length inputs → v ≡ input_bits x (slice_get arguments i)
-    → entered (take (i + 1) inputs) arguments ≡ entered (take i inputs) arguments ++ v ∷ []
-entered_more inputs arguments i x v is h e =
-    rw add-one (entered_next inputs arguments i x h ∙ ap (λ y. entered (take i inputs) arguments ++ y ∷ []) (ap (λ s. input_bits s (slice_get arguments i)) (sym is) ∙ sym e))
+pub entered_more : (fill : Bit) (inputs : List Size) (arguments : List Operand) (i : ℕ) (x : Size) (v : List Bit) → x ≡ get_or inputs i x → i < length inputs → v ≡ input_bits fill x (slice_get arguments i)
+    → entered fill (take (i + 1) inputs) arguments ≡ entered fill (take i inputs) arguments ++ v ∷ []
+entered_more fill inputs arguments i x v is h e =
+    rw add-one (entered_next fill inputs arguments i x h ∙ ap (λ y. entered fill (take i inputs) arguments ++ y ∷ []) (ap (λ s. input_bits fill s (slice_get arguments i)) (sym is) ∙ sym e))
 
 -- the operand that an argument is
 pub with_signs_get : (values : List (List Bit)) (es : List SizedExpr) (i : ℕ) (d : List Bit) → length es ≤ length values

@@ -44,12 +44,12 @@ fold_more f start [] b = refl
 fold_more f start (x ∷ xs) b = fold_more f (f start x) xs b
 
 -- a gate is its table folded over its inputs
-pub gate_is : (op : GateOp) (inputs : List Bit) → gate_output op (fold_inputs (gate_table op) (gate_start op) inputs) ≡ gate_bit op inputs
-gate_is gate.And inputs = refl
-gate_is gate.Nand inputs = refl
-gate_is gate.Or inputs = refl
-gate_is gate.Nor inputs = refl
-gate_is gate.Xor inputs = refl
-gate_is gate.Xnor inputs = refl
-gate_is gate.Buf inputs = refl
-gate_is gate.Not inputs = refl
+pub gate_is : (fill : Bit) (op : GateOp) (inputs : List Bit) → gate_output op (fold_inputs (gate_table op) (gate_start fill op) inputs) ≡ gate_bit fill op inputs
+gate_is fill gate.And inputs = refl
+gate_is fill gate.Nand inputs = refl
+gate_is fill gate.Or inputs = refl
+gate_is fill gate.Nor inputs = refl
+gate_is fill gate.Xor inputs = refl
+gate_is fill gate.Xnor inputs = refl
+gate_is fill gate.Buf inputs = refl
+gate_is fill gate.Not inputs = refl

@@ -37,17 +37,17 @@ pub reads_at : (e : SizedExpr) (x : Layer) → e.kind ≡ roll-SizedKind x
 unfolding reads
 reads_at e x is = fold_out-SizedExpr (List Read) (List Read) kind_reads (λ e. e.kind) e ∙ ap (λ k. fold-SizedKind (List Read) (List Read) kind_reads (λ e. e.kind) k) is ∙ fold-roll-SizedKind (List Read) (List Read) kind_reads (λ e. e.kind) x
 
-pub value_at_kind : (calls : Calls) (values : Values) (frame : Frame) (e : SizedExpr) (x : Layer) → e.kind ≡ roll-SizedKind x
-    → (operand_of calls values frame e).bits ≡ at_size e.width e.signed (kind_bits calls values frame (map-SizedKind SizedKind SizedExpr (ℕ → Bool → List Bit) Operand (fold-SizedKind (ℕ → Bool → List Bit) Operand (kind_bits calls values frame) sized_operand) (operand_of calls values frame) x) e.width e.signed)
+pub value_at_kind : (fill : Bit) (calls : Calls) (values : Values) (frame : Frame) (e : SizedExpr) (x : Layer) → e.kind ≡ roll-SizedKind x
+    → (operand_of fill calls values frame e).bits ≡ at_size e.width e.signed (kind_bits fill calls values frame (map-SizedKind SizedKind SizedExpr (ℕ → Bool → List Bit) Operand (fold-SizedKind (ℕ → Bool → List Bit) Operand (kind_bits fill calls values frame) sized_operand) (operand_of fill calls values frame) x) e.width e.signed)
 unfolding operand_of
-value_at_kind calls values frame e x is =
-    ap (λ (o : Operand). o.bits) (fold_out-SizedExpr (ℕ → Bool → List Bit) Operand (kind_bits calls values frame) sized_operand e)
-    ∙ ap (λ k. at_size e.width e.signed (fold-SizedKind (ℕ → Bool → List Bit) Operand (kind_bits calls values frame) sized_operand k e.width e.signed)) is
-    ∙ ap (λ (v : ℕ → Bool → List Bit). at_size e.width e.signed (v e.width e.signed)) (fold-roll-SizedKind (ℕ → Bool → List Bit) Operand (kind_bits calls values frame) sized_operand x)
+value_at_kind fill calls values frame e x is =
+    ap (λ (o : Operand). o.bits) (fold_out-SizedExpr (ℕ → Bool → List Bit) Operand (kind_bits fill calls values frame) sized_operand e)
+    ∙ ap (λ k. at_size e.width e.signed (fold-SizedKind (ℕ → Bool → List Bit) Operand (kind_bits fill calls values frame) sized_operand k e.width e.signed)) is
+    ∙ ap (λ (v : ℕ → Bool → List Bit). at_size e.width e.signed (v e.width e.signed)) (fold-roll-SizedKind (ℕ → Bool → List Bit) Operand (kind_bits fill calls values frame) sized_operand x)
 
-pub sign_of : (calls : Calls) (values : Values) (frame : Frame) (e : SizedExpr) → (operand_of calls values frame e).signed ≡ e.signed
+pub sign_of : (fill : Bit) (calls : Calls) (values : Values) (frame : Frame) (e : SizedExpr) → (operand_of fill calls values frame e).signed ≡ e.signed
 unfolding operand_of
-sign_of calls values frame e = ap (λ (o : Operand). o.signed) (fold_out-SizedExpr (ℕ → Bool → List Bit) Operand (kind_bits calls values frame) sized_operand e)
+sign_of fill calls values frame e = ap (λ (o : Operand). o.signed) (fold_out-SizedExpr (ℕ → Bool → List Bit) Operand (kind_bits fill calls values frame) sized_operand e)
 
 -- one layer of a statement
 abbrev pub StatementLayer : Type 0
@@ -62,12 +62,12 @@ pub statement_room_at : (calls : ℕ → ℕ) (s : Statement) (x : StatementLaye
 unfolding statement_room item_room_of
 statement_room_at calls s x is = ap (fold-Statement ℕ ℕ (effect_room calls) (item_room calls)) is ∙ fold-roll-Statement ℕ ℕ (effect_room calls) (item_room calls) x
 
-pub run_at : (calls : Calls) (values : Values) (frame : Frame) (s : Statement) (x : StatementLayer) → s ≡ roll-Statement x
-    → run calls values s frame ≡ effect (operand_of calls values) (map-Statement Statement CaseItem (Frame → Frame) Branch (run calls values) (branch calls values) x) frame
+pub run_at : (fill : Bit) (calls : Calls) (values : Values) (frame : Frame) (s : Statement) (x : StatementLayer) → s ≡ roll-Statement x
+    → run fill calls values s frame ≡ effect fill (operand_of fill calls values) (map-Statement Statement CaseItem (Frame → Frame) Branch (run fill calls values) (branch fill calls values) x) frame
 unfolding run branch
-run_at calls values frame s x is =
-    ap (λ s. fold-Statement (Frame → Frame) Branch (effect (operand_of calls values)) branch_of s frame) is
-    ∙ ap (λ (f : Frame → Frame). f frame) (fold-roll-Statement (Frame → Frame) Branch (effect (operand_of calls values)) branch_of x)
+run_at fill calls values frame s x is =
+    ap (λ s. fold-Statement (Frame → Frame) Branch (effect fill (operand_of fill calls values)) branch_of s frame) is
+    ∙ ap (λ (f : Frame → Frame). f frame) (fold-roll-Statement (Frame → Frame) Branch (effect fill (operand_of fill calls values)) branch_of x)
 
 pub item_depth_at : (item : CaseItem) → item_depth item ≡ max (most (map depth item.labels)) (statement_depth item.body)
 unfolding statement_depth item_depth
@@ -80,21 +80,21 @@ item_room_at calls item = fold_out-CaseItem ℕ ℕ (effect_room calls) (item_ro
 abbrev pub branch_with : List SizedExpr → (Frame → Frame) → Branch
 branch_with labels body = record { labels = labels; body = body }
 
-pub branch_at : (calls : Calls) (values : Values) (item : CaseItem) → branch calls values item ≡ branch_with item.labels (run calls values item.body)
+pub branch_at : (fill : Bit) (calls : Calls) (values : Values) (item : CaseItem) → branch fill calls values item ≡ branch_with item.labels (run fill calls values item.body)
 unfolding run branch
-branch_at calls values item = fold_out-CaseItem (Frame → Frame) Branch (effect (operand_of calls values)) branch_of item
+branch_at fill calls values item = fold_out-CaseItem (Frame → Frame) Branch (effect fill (operand_of fill calls values)) branch_of item
 
 -- the first branch, or what the rest gives
-pub first_at : (value : SizedExpr → List Bit) (tested : List Bit) (calls : Calls) (values : Values) (item : CaseItem) (next : List Branch) (otherwise : Frame → Frame) (b : Bool)
-    → has_label value tested item.labels ≡ b → first_branch value tested (branch calls values item ∷ next) otherwise ≡ cond b (run calls values item.body) (first_branch value tested next otherwise)
-first_at value tested calls values item next otherwise b h =
-    ap (λ x. first_branch value tested (x ∷ next) otherwise) (branch_at calls values item)
-    ∙ ap (λ t. cond t (run calls values item.body) (first_branch value tested next otherwise)) h
+pub first_at : (fill : Bit) (value : SizedExpr → List Bit) (tested : List Bit) (calls : Calls) (values : Values) (item : CaseItem) (next : List Branch) (otherwise : Frame → Frame) (b : Bool)
+    → has_label value tested item.labels ≡ b → first_branch value tested (branch fill calls values item ∷ next) otherwise ≡ cond b (run fill calls values item.body) (first_branch value tested next otherwise)
+first_at fill value tested calls values item next otherwise b h =
+    ap (λ x. first_branch value tested (x ∷ next) otherwise) (branch_at fill calls values item)
+    ∙ ap (λ t. cond t (run fill calls values item.body) (first_branch value tested next otherwise)) h
 
 -- the labels of the items of a `case`
-pub labels_back : (calls : Calls) (values : Values) (items : List CaseItem) → flat_map (λ item. item.labels) items ≡ flat_map (λ item. item.labels) (map (branch calls values) items)
-labels_back calls values [] = refl
-labels_back calls values (item ∷ more) =
-    let here : item.labels ≡ (branch calls values item).labels = sym (ap (λ (b : Branch). b.labels) (branch_at calls values item)) in
-    let rest : flat_map (λ item. item.labels) more ≡ flat_map (λ item. item.labels) (map (branch calls values) more) = labels_back calls values more in
+pub labels_back : (fill : Bit) (calls : Calls) (values : Values) (items : List CaseItem) → flat_map (λ item. item.labels) items ≡ flat_map (λ item. item.labels) (map (branch fill calls values) items)
+labels_back fill calls values [] = refl
+labels_back fill calls values (item ∷ more) =
+    let here : item.labels ≡ (branch fill calls values item).labels = sym (ap (λ (b : Branch). b.labels) (branch_at fill calls values item)) in
+    let rest : flat_map (λ item. item.labels) more ≡ flat_map (λ item. item.labels) (map (branch fill calls values) more) = labels_back fill calls values more in
     cc

@@ -1,10 +1,10 @@
 pub mod Cuts
 pub mod Depth
 pub mod Layers
-pub mod Lists
+pub mod Kept
 pub mod Callable
 pub mod Enter
-pub mod Tables
+pub mod RoomTable
 mod Gates
 mod Commons
 pub mod ReadLists

@@ -3,7 +3,7 @@ use Rattle.std.proofs.Common.{◌≡◌, ℕ, ◌+◌, ◌<◌, ◌≤◌, List,
 use Rattle.vod_design.specs.declared.read.Read.{Read}
 use Rattle.vod_design.specs.declared.sized.SizedExpr.{SizedExpr}
 use Rattle.vod_design.specs.Reads.{reads}
-use Rattle.vod_eval.proofs.Lists.{flat_take}
+use Rattle.vod_eval.proofs.Kept.{flat_take}
 
 take_all : {A : Type 0} (xs : List A) (n : ℕ) → length xs ≤ n → take n xs ≡ xs
 take_all [] zero h = refl

@@ -1,6 +1,6 @@
 -- What is put together piece by piece: bits, and the inputs of a gate.
 use Rattle.std.specs.Prelude.{◌-◌, List, [], ◌∷◌, length, drop, Option, None, Some}
-use Rattle.vod_bits.specs.Bit.{Bit, B0, B1, BX, not_bit, and_bit, or_bit, xor_bit}
+use Rattle.vod_bits.specs.Bit.{Bit, B0, B1, not_bit, and_bit, or_bit, xor_bit}
 use Rattle.vod_bits.specs.declared.TheConstants.{WIDTH}
 use Rattle.vod_design.specs.declared.sized.GateOp.{GateOp}
 use Rattle.vod_design.specs.declared.sized.GateOp.TheVariants as gate
@@ -21,15 +21,15 @@ unfoldable pub lowest : List Bit → List Bit
 lowest bits = drop (length bits - WIDTH) bits
 
 -- what a gate begins with, before its first input
-abbrev pub gate_start : GateOp → Bit
-gate_start gate.And = B1
-gate_start gate.Nand = B1
-gate_start gate.Or = B0
-gate_start gate.Nor = B0
-gate_start gate.Xor = B0
-gate_start gate.Xnor = B0
-gate_start gate.Buf = BX
-gate_start gate.Not = BX
+abbrev pub gate_start : Bit → GateOp → Bit
+gate_start fill gate.And = B1
+gate_start fill gate.Nand = B1
+gate_start fill gate.Or = B0
+gate_start fill gate.Nor = B0
+gate_start fill gate.Xor = B0
+gate_start fill gate.Xnor = B0
+gate_start fill gate.Buf = fill
+gate_start fill gate.Not = fill
 
 -- what it makes of the inputs so far and one more
 abbrev pub gate_table : GateOp → Bit → Bit → Bit

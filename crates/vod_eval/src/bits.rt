@@ -1,30 +1,13 @@
 //! Values at sizes, and bits taken out of them and put into them.
-ghost use Rattle.std.specs.Prelude.{◌≡◌, ◌+◌, ◌-◌, ◌≤◌, ◌∷◌, [], ◌++◌, length, take, drop};
-ghost use Rattle.vod_bits.specs.Bit.{B0, B1, BX, is_1, bit_if};
-ghost use Rattle.vod_bits.specs.Value.{number_of, upper_bit};
+ghost use Rattle.std.specs.Prelude.{◌≡◌, ◌+◌, ◌-◌, ◌≤◌, ◌∷◌, [], ◌++◌, length, take, drop, option_map};
+ghost use Rattle.vod_bits.specs.Bit.{B0, B1, bit_if};
 ghost use Rattle.vod_design.specs.Values.{unknown, bounded, at_size, select_bits, index_place, bit_at_place};
 ghost use Rattle.vod_design.specs.Run.{replace_bits};
 ghost use Rattle.vod_design.specs.Eval.{repeated};
 ghost use Rattle.vod_eval.specs.Pieces.{bits_of_option, filled_bits, lowest};
 
 use vod_bits::{Bits, WIDTH, Word};
-use vod_four::Four;
-
-// How many bits the value has.
-pub fn width(value: Four) -> u8
-    ensures size { result ≡ length value }
-    ensures some { 1 ≤ result }
-    ensures within { result ≤ WIDTH }
-{
-    value.width
-}
-
-// The number that a known value stands for.
-fn number(bits: Bits) -> Word
-    ensures { result ≡ number_of bits }
-{
-    bits.word
-}
+use vod_value::Value;
 
 // A size from 1 to `WIDTH`, the nearest to the one given.
 pub fn bounded(width: u8) -> u8
@@ -35,67 +18,48 @@ pub fn bounded(width: u8) -> u8
 
 // The value at a size.
 #[tactic(auto, unfolding(vod_design::specs::Values::at_size))]
-pub fn at_size(value: Four, width: u8, signed: bool) -> Four
-    ensures { result ≡ at_size width signed value }
+pub fn at_size<V: Value>(value: V, width: u8, signed: bool) -> V
+    ensures { V.bits result ≡ at_size width signed (V.bits value) }
 {
     value.resize(bounded(width), signed)
 }
 
 // One bit, 1 where the test holds, else 0.
-pub fn bit(test: bool) -> Four
-    ensures { result ≡ bit_if test ∷ [] }
+pub fn bit<V: Value>(test: bool) -> V
+    ensures { V.bits result ≡ bit_if test ∷ [] }
 {
-    if test { one() } else { zero() }
+    V::of(Bits::bit(test))
 }
 
 // One bit of 1.
-pub fn one() -> Four
-    ensures { result ≡ B1 ∷ [] }
+pub fn one<V: Value>() -> V
+    ensures { V.bits result ≡ B1 ∷ [] }
 {
-    Four {
-        width: 1,
-        ones: 1,
-        unks: 0,
-    }
+    bit(true)
 }
 
 // One bit of 0.
-pub fn zero() -> Four
-    ensures { result ≡ B0 ∷ [] }
+pub fn zero<V: Value>() -> V
+    ensures { V.bits result ≡ B0 ∷ [] }
 {
-    Four {
-        width: 1,
-        ones: 0,
-        unks: 0,
-    }
+    bit(false)
 }
 
-// One bit of x.
-pub fn unknown_bit() -> Four
-    ensures { result ≡ BX ∷ [] }
+// A value whose bits aren't there, at a size.
+#[tactic(auto, using(crate::proofs::Cuts::stretch))]
+pub fn unknown<V: Value>(width: u8) -> V
+    ensures { V.bits result ≡ unknown V.fill (bounded width) }
 {
-    Four {
-        width: 1,
-        ones: 0,
-        unks: 1,
-    }
+    V::nothing().resize(bounded(width), true)
 }
 
-// A value of x alone, at a size.
-#[tactic(auto, using(crate::proofs::Cuts::stretch_x))]
-pub fn unknown(width: u8) -> Four
-    ensures { result ≡ unknown (bounded width) }
-{
-    unknown_bit().resize(bounded(width), true)
-}
-
-// Bits from a place up, x where they aren't inside.
+// Bits from a place up, none of them there where they aren't all inside.
 #[tactic(auto, using(crate::proofs::Cuts::select_inside, crate::proofs::Cuts::select_outside))]
-pub fn select(value: Four, low: u8, count: u8) -> Four
-    ensures { result ≡ select_bits low (bounded count) value }
+pub fn select<V: Value>(value: V, low: u8, count: u8) -> V
+    ensures { V.bits result ≡ select_bits V.fill low (bounded count) (V.bits value) }
 {
     let count = bounded(count);
-    if u16::from(low) + u16::from(count) <= u16::from(width(value)) {
+    if u16::from(low) + u16::from(count) <= u16::from(value.width()) {
         value.slice(low, count)
     } else {
         unknown(count)
@@ -103,53 +67,53 @@ pub fn select(value: Four, low: u8, count: u8) -> Four
 }
 
 // The place that an index names above the least index.
-pub fn index_place(least: u16, index: Four) -> Option<Word>
-    ensures { result ≡ index_place least index }
+pub fn index_place<V: Value>(least: u16, index: V) -> Option<Word>
+    ensures { result ≡ index_place least (V.bits index) }
 {
-    let number = number(index.known()?);
+    let number = index.number()?;
     number.checked_sub(Word::from(least))
 }
 
 // The bit at a place.
-pub fn bit_at_place(value: Four, place: Option<Word>) -> Four
-    ensures { result ≡ bit_at_place value place }
+pub fn bit_at_place<V: Value>(value: V, place: Option<Word>) -> V
+    ensures { V.bits result ≡ bit_at_place V.fill (V.bits value) place }
 {
     match place {
-        None => unknown_bit(),
+        None => V::nothing(),
         Some(place) => bit_from(value, place),
     }
 }
 
 // The bit from a place up.
 #[tactic(auto, using(crate::proofs::Cuts::select_outside))]
-fn bit_from(value: Four, place: Word) -> Four
-    ensures { result ≡ select_bits place 1 value }
+fn bit_from<V: Value>(value: V, place: Word) -> V
+    ensures { V.bits result ≡ select_bits V.fill place 1 (V.bits value) }
 {
-    if place < Word::from(width(value)) {
+    if place < Word::from(value.width()) {
         select(value, place as u8, 1)
     } else {
-        unknown_bit()
+        V::nothing()
     }
 }
 
 // The upper bits of a value, so many of them.
 #[tactic(auto, using(crate::proofs::Cuts::upper_slice))]
-fn upper_part(value: Four, count: u8) -> Option<Four>
-    requires { count ≤ length value }
-    ensures { bits_of_option result ≡ take count value }
+fn upper_part<V: Value>(value: V, count: u8) -> Option<V>
+    requires { count ≤ length (V.bits value) }
+    ensures { bits_of_option (option_map V.bits result) ≡ take count (V.bits value) }
 {
     if count == 0 {
         None
     } else {
-        Some(value.slice(width(value) - count, count))
+        Some(value.slice(value.width() - count, count))
     }
 }
 
 // The lower bits of a value, so many of them.
 #[tactic(auto, using(crate::proofs::Cuts::lower_slice))]
-fn lower_part(value: Four, count: u8) -> Option<Four>
-    requires { count ≤ length value }
-    ensures { bits_of_option result ≡ drop (length value - count) value }
+fn lower_part<V: Value>(value: V, count: u8) -> Option<V>
+    requires { count ≤ length (V.bits value) }
+    ensures { bits_of_option (option_map V.bits result) ≡ drop (length (V.bits value) - count) (V.bits value) }
 {
     if count == 0 {
         None
@@ -159,19 +123,19 @@ fn lower_part(value: Four, count: u8) -> Option<Four>
 }
 
 // The lower bits, at most so many of them.
-fn cut(bits: Option<Four>, count: u8) -> Option<Four>
-    ensures { bits_of_option result ≡ drop (length (bits_of_option bits) - count) (bits_of_option bits) }
+fn cut<V: Value>(bits: Option<V>, count: u8) -> Option<V>
+    ensures { bits_of_option (option_map V.bits result) ≡ drop (length (bits_of_option (option_map V.bits bits)) - count) (bits_of_option (option_map V.bits bits)) }
 {
     match bits {
         None => None,
-        Some(value) => lower_part(value, count.min(width(value))),
+        Some(value) => lower_part(value, count.min(value.width())),
     }
 }
 
 // A value behind other bits.
-fn behind(upper: Option<Four>, low: Four) -> Four
-    requires { length (bits_of_option upper) + length low ≤ WIDTH }
-    ensures { result ≡ bits_of_option upper ++ low }
+fn behind<V: Value>(upper: Option<V>, low: V) -> V
+    requires { length (bits_of_option (option_map V.bits upper)) + length (V.bits low) ≤ WIDTH }
+    ensures { V.bits result ≡ bits_of_option (option_map V.bits upper) ++ V.bits low }
 {
     match upper {
         None => low,
@@ -180,9 +144,9 @@ fn behind(upper: Option<Four>, low: Four) -> Four
 }
 
 // A value before other bits.
-fn before(upper: Four, low: Option<Four>) -> Four
-    requires { length upper + length (bits_of_option low) ≤ WIDTH }
-    ensures { result ≡ upper ++ bits_of_option low }
+fn before<V: Value>(upper: V, low: Option<V>) -> V
+    requires { length (V.bits upper) + length (bits_of_option (option_map V.bits low)) ≤ WIDTH }
+    ensures { V.bits result ≡ V.bits upper ++ bits_of_option (option_map V.bits low) }
 {
     match low {
         None => upper,
@@ -192,16 +156,16 @@ fn before(upper: Four, low: Option<Four>) -> Four
 
 // A value behind other bits, cut to the lowest `WIDTH` bits.
 #[tactic(auto, using(crate::proofs::Cuts::lowest_joined))]
-pub fn joined(upper: Option<Four>, low: Four) -> Four
-    ensures { result ≡ lowest (bits_of_option upper ++ low) }
+pub fn joined<V: Value>(upper: Option<V>, low: V) -> V
+    ensures { V.bits result ≡ lowest (bits_of_option (option_map V.bits upper) ++ V.bits low) }
 {
-    behind(cut(upper, WIDTH - width(low)), low)
+    behind(cut(upper, WIDTH - low.width()), low)
 }
 
 // A value so many times one behind the other, cut to the lowest `WIDTH` bits, or none at all.
 #[tactic(auto, using(crate::proofs::Cuts::repeated_more, crate::proofs::Cuts::repeated_none))]
-pub fn repeated(count: u8, value: Four) -> Option<Four>
-    ensures { bits_of_option result ≡ lowest (repeated count value) }
+pub fn repeated<V: Value>(count: u8, value: V) -> Option<V>
+    ensures { bits_of_option (option_map V.bits result) ≡ lowest (repeated count (V.bits value)) }
 {
     let mut bits = None;
     for _ in 0..count {
@@ -211,8 +175,8 @@ pub fn repeated(count: u8, value: Four) -> Option<Four>
 }
 
 // The bits, which count as a 0 where there are none.
-pub fn filled(bits: Option<Four>) -> Four
-    ensures { result ≡ filled_bits bits }
+pub fn filled<V: Value>(bits: Option<V>) -> V
+    ensures { V.bits result ≡ filled_bits (option_map V.bits bits) }
 {
     match bits {
         None => zero(),
@@ -222,11 +186,11 @@ pub fn filled(bits: Option<Four>) -> Four
 
 // A value with bits from a place up replaced, where they are inside.
 #[tactic(auto, using(crate::proofs::Cuts::replace_outside))]
-pub fn replaced(old: Four, low: Word, new: Four) -> Four
-    ensures { result ≡ replace_bits low new old }
+pub fn replaced<V: Value>(old: V, low: Word, new: V) -> V
+    ensures { V.bits result ≡ replace_bits low (V.bits new) (V.bits old) }
 {
-    let end = low.saturating_add(Word::from(width(new)));
-    if end > Word::from(width(old)) {
+    let end = low.saturating_add(Word::from(new.width()));
+    if end > Word::from(old.width()) {
         return old;
     }
     replaced_inside(old, low as u8, new)
@@ -234,19 +198,10 @@ pub fn replaced(old: Four, low: Word, new: Four) -> Four
 
 // The same, of bits that are inside.
 #[tactic(auto, using(crate::proofs::Cuts::replace_inside))]
-fn replaced_inside(old: Four, low: u8, new: Four) -> Four
-    requires { low + length new ≤ length old }
-    ensures { result ≡ replace_bits low new old }
+fn replaced_inside<V: Value>(old: V, low: u8, new: V) -> V
+    requires { low + length (V.bits new) ≤ length (V.bits old) }
+    ensures { V.bits result ≡ replace_bits low (V.bits new) (V.bits old) }
 {
-    let upper = upper_part(old, width(old) - low - width(new));
+    let upper = upper_part(old, old.width() - low - new.width());
     before(behind(upper, new), lower_part(old, low))
-}
-
-// Whether a value of one bit is 1.
-#[tactic(auto, using(crate::proofs::Cuts::one_is))]
-pub fn is_one(bit: Four) -> bool
-    requires { length bit ≡ 1 }
-    ensures { result ≡ is_1 (upper_bit bit) }
-{
-    bit.case_eq(one())
 }

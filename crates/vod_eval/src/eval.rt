@@ -1,123 +1,145 @@
 //! Expressions, calls and statements.
 ghost use Rattle.std.specs.Prelude.{◌≡◌, ◌+◌, ◌≤◌, map, flat_map, take, drop, length, [], ◌∷◌, ◌++◌, MatchOption, Some, None, option_map, slice_set};
 ghost use Rattle.vod_bits.specs.Bit.{is_1};
-ghost use Rattle.vod_four.specs.Four.{truth_bit};
+ghost use Rattle.vod_four.specs.Four.{truth_bit, choose_bits};
 ghost use Rattle.vod_design.specs.Values.{at_size, bounded, value_at, variable_bits, named_bits, word_or_x, word_at};
 ghost use Rattle.vod_design.specs.Run.{eval, in_turn, entered, frame_of, first_branch, has_label, assigned, written, target_of, at_index, replace_bits};
 ghost use Rattle.vod_design.specs.Run.Target.{Bits};
 ghost use Rattle.vod_design.specs.Eval.{fold_inputs};
 ghost use Rattle.vod_eval.specs.Pieces.{bits_of_option, lowest, gate_start, gate_table};
 ghost use Rattle.vod_eval.specs.Room.{room_of, expr_room, statement_room, item_room_of, most, staged};
-ghost use Rattle.vod_eval.specs.Scenes.{callable_in, operand, with_signs, input_bits, unknown_of, run_in, branch_in, index_in, part_room, rooms, calls_of, values_of, scene_values, operand_in, bits_in, input_in, bits_at};
+ghost use Rattle.vod_eval.specs.Scenes.{seen, callable_in, operand, with_signs, input_bits, unknown_of, run_in, branch_in, index_in, part_room, rooms, calls_of, scene_values, operand_in, bits_in, input_in, bits_at};
 
 use crate::bits::{
-    at_size, bit_at_place, filled, index_place, is_one, joined, repeated, replaced, select,
-    unknown, unknown_bit,
+    at_size, bit_at_place, filled, index_place, joined, repeated, replaced, select, unknown,
 };
 use crate::labels::case_size;
 use crate::ops;
-use sqlite_items::{Items, at};
+use crate::table::{Tables, value_at};
+use sqlite_items::at;
 use vod_bits::Word;
 use vod_design::{
     CaseItem, Function, GateOp, Memory, Named, Part, PartTarget, Size, SizedExpr, SizedKind,
     Statement, Variable,
 };
-use vod_four::Four;
+use vod_value::Value;
 
-/// The value of an expression, given the functions of the design, the values of its signals by number, and those of its memory
-/// words by memory and place. The room is for the variables of the functions that are called.
+/// The value of an expression, given the functions of the design and the tables of the values of its signals and memory words. Of
+/// a `?:` whose test is known the branch taken is evaluated alone. The room is for the variables of the functions that are called.
 #[tactic(auto, unfolding(crate::specs::Room::room_of, vod_design::specs::Run::eval))]
-pub fn value_of(
+pub fn value_of<V: Value, T: Tables<V>>(
     functions: &[Function],
-    signals: &[Four],
-    memories: &[Items<Four>],
+    tables: &T,
     expr: &SizedExpr,
-    room: &mut [Four],
-) -> Four
+    room: &mut [V],
+) -> V
     requires { room_of functions.now expr.now ≤ length room.old }
-    ensures { result ≡ eval functions.now (values_of signals.now memories.now) [] expr.now }
+    ensures { V.bits result ≡ eval V.fill functions.now (T.values tables.now) [] expr.now }
 {
     let scene = Scene {
         functions,
         limit: functions.len(),
-        signals,
-        memories,
+        tables,
+        in_function: false,
     };
     value(&scene, &[], expr, room)
 }
 
-// What an expression is evaluated over: the functions, of which those before the limit may be called, and the values of signals
-// and memory words.
-#[derive(Clone, Copy)]
-pub struct Scene<'v> {
+// What an expression is evaluated over: the functions, of which those before the limit may be called, and the tables. In a
+// function's body no signal and no memory word has a value.
+#[derive(Drop)]
+pub struct Scene<'v, T> {
     functions: &'v [Function],
     limit: usize,
-    signals: &'v [Four],
-    memories: &'v [Items<Four>],
+    tables: &'v T,
+    in_function: bool,
 }
 
-// The value at a place of a list, x where there is none.
-fn value_at(values: &[Four], n: usize) -> Four
-    ensures { result ≡ value_at values.now n }
+// The value of a signal.
+fn signal<V: Value, T: Tables<V>>(scene: &Scene<'_, T>, n: u32) -> V
+    ensures { V.bits result ≡ (scene_values (seen V.fill T.values scene.now)).signal n }
 {
-    values.get(n).copied().unwrap_or(unknown_bit())
+    if scene.in_function {
+        V::nothing()
+    } else {
+        scene.tables.signal(n)
+    }
 }
 
 // The value of a variable.
-fn variable(scene: &Scene<'_>, frame: &[Four], variable: Variable) -> Four
-    ensures { result ≡ variable_bits (scene_values scene.now) frame.now variable }
+fn variable<V: Value, T: Tables<V>>(scene: &Scene<'_, T>, frame: &[V], variable: Variable) -> V
+    ensures { V.bits result ≡ variable_bits V.fill (scene_values (seen V.fill T.values scene.now)) (map V.bits frame.now) variable }
 {
     match variable {
-        Variable::Signal(n) => value_at(scene.signals, n as usize),
+        Variable::Signal(n) => signal(scene, n),
         Variable::Local(n) => value_at(frame, n as usize),
     }
 }
 
 // The value of a name.
-fn named(scene: &Scene<'_>, frame: &[Four], name: Named) -> Four
-    ensures { result ≡ named_bits (scene_values scene.now) frame.now name }
+fn named<V: Value, T: Tables<V>>(scene: &Scene<'_, T>, frame: &[V], name: Named) -> V
+    ensures { V.bits result ≡ named_bits V.fill (scene_values (seen V.fill T.values scene.now)) (map V.bits frame.now) name }
 {
     match name {
         Named::Variable(x) => variable(scene, frame, x),
-        Named::Constant(bits) => Four::of(bits),
+        Named::Constant(bits) => V::of(bits),
     }
 }
 
-// A memory word, x in each bit where there is none.
-fn word(scene: &Scene<'_>, memory: Memory, place: Option<Word>) -> Four
-    ensures { result ≡ word_or_x (bounded memory.width) (word_at (scene_values scene.now) memory.number place) }
+// A word of a memory at a place, where there is one.
+fn word_at<V: Value, T: Tables<V>>(
+    scene: &Scene<'_, T>,
+    memory: u32,
+    place: Option<Word>,
+) -> Option<V>
+    ensures { option_map V.bits result ≡ word_at (scene_values (seen V.fill T.values scene.now)) memory place }
 {
-    let Some(place) = place else {
-        return unknown(memory.width);
-    };
-    let Some(words) = scene.memories.get(memory.number as usize) else {
-        return unknown(memory.width);
-    };
-    words
-        .as_slice()
-        .get(place as usize)
-        .copied()
-        .unwrap_or(unknown(memory.width))
+    let place = place?;
+    if scene.in_function {
+        None
+    } else {
+        scene.tables.word(memory, place)
+    }
+}
+
+// A memory word, none of its bits there where there is no such word.
+fn word<V: Value, T: Tables<V>>(scene: &Scene<'_, T>, memory: Memory, place: Option<Word>) -> V
+    ensures { V.bits result ≡ word_or_x V.fill (bounded memory.width) (word_at (scene_values (seen V.fill T.values scene.now)) memory.number place) }
+{
+    match word_at(scene, memory.number, place) {
+        Some(value) => value,
+        None => unknown(memory.width),
+    }
 }
 
 // The value of an expression at its size and sign.
 #[cycle(eval)]
-fn value(scene: &Scene<'_>, frame: &[Four], e: &SizedExpr, room: &mut [Four]) -> Four
+fn value<V: Value, T: Tables<V>>(
+    scene: &Scene<'_, T>,
+    frame: &[V],
+    e: &SizedExpr,
+    room: &mut [V],
+) -> V
     requires { expr_room (rooms scene.now) e.now ≤ length room.old }
-    ensures { result ≡ bits_in scene.now frame.now e.now }
+    ensures { V.bits result ≡ bits_in (seen V.fill T.values scene.now) (map V.bits frame.now) e.now }
 {
     at_size(unsized_value(scene, frame, e, room), e.width, e.signed)
 }
 
 // The value of an expression before it takes its size: what is wider loses upper bits then.
 #[cycle(eval)]
-fn unsized_value(scene: &Scene<'_>, frame: &[Four], e: &SizedExpr, room: &mut [Four]) -> Four
+fn unsized_value<V: Value, T: Tables<V>>(
+    scene: &Scene<'_, T>,
+    frame: &[V],
+    e: &SizedExpr,
+    room: &mut [V],
+) -> V
     requires { expr_room (rooms scene.now) e.now ≤ length room.old }
-    ensures { at_size e.now.width e.now.signed result ≡ bits_in scene.now frame.now e.now }
+    ensures { at_size e.now.width e.now.signed (V.bits result) ≡ bits_in (seen V.fill T.values scene.now) (map V.bits frame.now) e.now }
 {
     let (width, signed) = (e.width, e.signed);
     match &e.kind {
-        SizedKind::Number(bits) => Four::of(*bits),
+        SizedKind::Number(bits) => V::of(*bits),
         SizedKind::Name(name) => named(scene, frame, *name),
         SizedKind::Select(name, low, count) => select(named(scene, frame, *name), *low, *count),
         SizedKind::Index(name, least, index) => {
@@ -160,9 +182,15 @@ fn unsized_value(scene: &Scene<'_>, frame: &[Four], e: &SizedExpr, room: &mut [F
         }
         SizedKind::Conditional(test, a, b) => {
             let test = value(scene, frame, test.get(), room);
-            let a = value(scene, frame, a.get(), room);
-            let b = value(scene, frame, b.get(), room);
-            test.choose(at_size(a, width, signed), at_size(b, width, signed))
+            chosen(
+                scene,
+                frame,
+                test,
+                a.get(),
+                b.get(),
+                Size { width, signed },
+                room,
+            )
         }
         SizedKind::Concat(parts) => filled(concat(scene, frame, parts.as_slice(), room)),
         SizedKind::Replicate(count, a) => {
@@ -178,11 +206,45 @@ fn unsized_value(scene: &Scene<'_>, frame: &[Four], e: &SizedExpr, room: &mut [F
     }
 }
 
+// What a `?:` gives at its size, by its test: the branch taken, or where the test isn't known what both have in common.
+#[cycle(eval)]
+fn chosen<V: Value, T: Tables<V>>(
+    scene: &Scene<'_, T>,
+    frame: &[V],
+    test: V,
+    a: &SizedExpr,
+    b: &SizedExpr,
+    size: Size,
+    room: &mut [V],
+) -> V
+    requires a { expr_room (rooms scene.now) a.now ≤ length room.old }
+    requires b { expr_room (rooms scene.now) b.now ≤ length room.old }
+    ensures { V.bits result ≡ choose_bits (truth_bit (V.bits test)) (bits_at (seen V.fill T.values scene.now) (map V.bits frame.now) size a.now) (bits_at (seen V.fill T.values scene.now) (map V.bits frame.now) size b.now) }
+{
+    match test.truth() {
+        Some(true) => at_size(value(scene, frame, a, room), size.width, size.signed),
+        Some(false) => at_size(value(scene, frame, b, room), size.width, size.signed),
+        None => {
+            let a = value(scene, frame, a, room);
+            let b = value(scene, frame, b, room);
+            test.choose(
+                at_size(a, size.width, size.signed),
+                at_size(b, size.width, size.signed),
+            )
+        }
+    }
+}
+
 // The parts of a concatenation one behind the other.
 #[cycle(eval)]
-fn concat(scene: &Scene<'_>, frame: &[Four], parts: &[SizedExpr], room: &mut [Four]) -> Option<Four>
+fn concat<V: Value, T: Tables<V>>(
+    scene: &Scene<'_, T>,
+    frame: &[V],
+    parts: &[SizedExpr],
+    room: &mut [V],
+) -> Option<V>
     requires { most (map (expr_room (rooms scene.now)) parts.now) ≤ length room.old }
-    ensures { bits_of_option result ≡ lowest (flat_map (bits_in scene.now frame.now) parts.now) }
+    ensures { bits_of_option (option_map V.bits result) ≡ lowest (flat_map (bits_in (seen V.fill T.values scene.now) (map V.bits frame.now)) parts.now) }
 {
     let mut bits = None;
     for part in parts {
@@ -193,15 +255,15 @@ fn concat(scene: &Scene<'_>, frame: &[Four], parts: &[SizedExpr], room: &mut [Fo
 
 // The table of a gate folded over its inputs, of one bit each.
 #[cycle(eval)]
-fn folded(
-    scene: &Scene<'_>,
-    frame: &[Four],
+fn folded<V: Value, T: Tables<V>>(
+    scene: &Scene<'_, T>,
+    frame: &[V],
     op: GateOp,
     inputs: &[SizedExpr],
-    room: &mut [Four],
-) -> Four
+    room: &mut [V],
+) -> V
     requires { most (map (expr_room (rooms scene.now)) inputs.now) ≤ length room.old }
-    ensures { result ≡ fold_inputs (gate_table op) (gate_start op) (flat_map (input_in scene.now frame.now) inputs.now) ∷ [] }
+    ensures { V.bits result ≡ fold_inputs (gate_table op) (gate_start V.fill op) (flat_map (input_in (seen V.fill T.values scene.now) (map V.bits frame.now)) inputs.now) ∷ [] }
 {
     let mut so_far = ops::gate_start(op);
     for input in inputs {
@@ -213,19 +275,19 @@ fn folded(
 
 // The value of a call of the function of a number.
 #[cycle(eval)]
-fn call(
-    scene: &Scene<'_>,
-    frame: &[Four],
+fn call<V: Value, T: Tables<V>>(
+    scene: &Scene<'_, T>,
+    frame: &[V],
     n: usize,
     arguments: &[SizedExpr],
-    room: &mut [Four],
-) -> Four
+    room: &mut [V],
+) -> V
     requires arguments { staged (map (expr_room (rooms scene.now)) arguments.now) ≤ length room.old }
     requires function { rooms scene.now n ≤ length room.old }
-    ensures { result ≡ calls_of scene.now n (map (operand_in scene.now frame.now) arguments.now) }
+    ensures { V.bits result ≡ calls_of (seen V.fill T.values scene.now) n (map (operand_in (seen V.fill T.values scene.now) (map V.bits frame.now)) arguments.now) }
 {
     let Some(function) = callable(scene, n) else {
-        return unknown_bit();
+        return V::nothing();
     };
     values(scene, frame, arguments, room);
     enter(function, arguments, room);
@@ -234,15 +296,15 @@ fn call(
     let inner = Scene {
         functions: scene.functions,
         limit: n,
-        signals: &[],
-        memories: &[],
+        tables: scene.tables,
+        in_function: true,
     };
     run(&inner, function.body.statement(), variables, rest);
     variables[result]
 }
 
 // The function of a number, where it may be called.
-fn callable<'v>(scene: &Scene<'v>, n: usize) -> Option<&'v Function>
+fn callable<'v, T>(scene: &Scene<'v, T>, n: usize) -> Option<&'v Function>
     ensures { MatchOption result (callable_in scene.now n ≡ None) (λ f. callable_in scene.now n ≡ Some f.now) }
 {
     if n < scene.limit {
@@ -254,9 +316,14 @@ fn callable<'v>(scene: &Scene<'v>, n: usize) -> Option<&'v Function>
 
 // Puts the values of expressions into the front of the room.
 #[cycle(eval)]
-fn values(scene: &Scene<'_>, frame: &[Four], exprs: &[SizedExpr], room: &mut [Four])
+fn values<V: Value, T: Tables<V>>(
+    scene: &Scene<'_, T>,
+    frame: &[V],
+    exprs: &[SizedExpr],
+    room: &mut [V],
+)
     requires { staged (map (expr_room (rooms scene.now)) exprs.now) ≤ length room.old }
-    ensures { take (length exprs.now) room.new ≡ map (bits_in scene.now frame.now) exprs.now }
+    ensures { take (length exprs.now) (map V.bits room.new) ≡ map (bits_in (seen V.fill T.values scene.now) (map V.bits frame.now)) exprs.now }
 {
     for (i, expr) in exprs.iter().enumerate() {
         room[i] = value(scene, frame, expr, &mut room[i..]);
@@ -264,10 +331,10 @@ fn values(scene: &Scene<'_>, frame: &[Four], exprs: &[SizedExpr], room: &mut [Fo
 }
 
 // Makes of the values of a call's arguments the function's variables as it is entered.
-fn enter(function: &Function, arguments: &[SizedExpr], room: &mut [Four])
+fn enter<V: Value>(function: &Function, arguments: &[SizedExpr], room: &mut [V])
     requires arguments { length arguments.now ≤ length room.old }
     requires variables { length function.now.inputs + length function.now.locals + 1 ≤ length room.old }
-    ensures { take (length function.now.inputs + length function.now.locals + 1) room.new ≡ frame_of function.now (with_signs (take (length arguments.now) room.old) arguments.now) }
+    ensures { take (length function.now.inputs + length function.now.locals + 1) (map V.bits room.new) ≡ frame_of V.fill function.now (with_signs (take (length arguments.now) (map V.bits room.old)) arguments.now) }
 {
     let inputs = function.inputs.as_slice();
     let locals = function.locals.as_slice();
@@ -277,10 +344,10 @@ fn enter(function: &Function, arguments: &[SizedExpr], room: &mut [Four])
 }
 
 // Assigns the values of arguments to inputs.
-fn take_arguments(inputs: &[Size], arguments: &[SizedExpr], room: &mut [Four])
+fn take_arguments<V: Value>(inputs: &[Size], arguments: &[SizedExpr], room: &mut [V])
     requires arguments { length arguments.now ≤ length room.old }
     requires inputs { length inputs.now ≤ length room.old }
-    ensures { room.new ≡ entered inputs.now (with_signs (take (length arguments.now) room.old) arguments.now) ++ drop (length inputs.now) room.old }
+    ensures { map V.bits room.new ≡ entered V.fill inputs.now (with_signs (take (length arguments.now) (map V.bits room.old)) arguments.now) ++ drop (length inputs.now) (map V.bits room.old) }
 {
     for (i, input) in inputs.iter().enumerate() {
         room[i] = input_value(input, room[i], at(arguments, i));
@@ -288,8 +355,8 @@ fn take_arguments(inputs: &[Size], arguments: &[SizedExpr], room: &mut [Four])
 }
 
 // The value of an input, given the value of its argument.
-fn input_value(input: &Size, value: Four, argument: Option<&SizedExpr>) -> Four
-    ensures { result ≡ input_bits input.now (option_map (λ e. operand value e.now.signed) argument.entry) }
+fn input_value<V: Value>(input: &Size, value: V, argument: Option<&SizedExpr>) -> V
+    ensures { V.bits result ≡ input_bits V.fill input.now (option_map (λ e. operand (V.bits value) e.now.signed) argument.entry) }
 {
     match argument {
         Some(argument) => at_size(value, input.width, argument.signed),
@@ -298,9 +365,9 @@ fn input_value(input: &Size, value: Four, argument: Option<&SizedExpr>) -> Four
 }
 
 // Starts locals at x.
-fn clear(locals: &[Size], variables: &mut [Four])
+fn clear<V: Value>(locals: &[Size], variables: &mut [V])
     requires { length locals.now ≤ length variables.old }
-    ensures { variables.new ≡ map unknown_of locals.now ++ drop (length locals.now) variables.old }
+    ensures { map V.bits variables.new ≡ map (unknown_of V.fill) locals.now ++ drop (length locals.now) (map V.bits variables.old) }
 {
     for (i, local) in locals.iter().enumerate() {
         variables[i] = unknown(local.width);
@@ -309,9 +376,14 @@ fn clear(locals: &[Size], variables: &mut [Four])
 
 // Runs a statement of a function over its variables.
 #[cycle(eval)]
-fn run(scene: &Scene<'_>, statement: &Statement, frame: &mut [Four], room: &mut [Four])
+fn run<V: Value, T: Tables<V>>(
+    scene: &Scene<'_, T>,
+    statement: &Statement,
+    frame: &mut [V],
+    room: &mut [V],
+)
     requires { statement_room (rooms scene.now) statement.now ≤ length room.old }
-    ensures { frame.new ≡ run_in scene.now statement.now frame.old }
+    ensures { map V.bits frame.new ≡ run_in (seen V.fill T.values scene.now) statement.now (map V.bits frame.old) }
 {
     match statement {
         Statement::Assign(parts, right) => {
@@ -340,9 +412,14 @@ fn run(scene: &Scene<'_>, statement: &Statement, frame: &mut [Four], room: &mut 
 
 // Runs statements one after the other.
 #[cycle(eval)]
-fn run_all(scene: &Scene<'_>, statements: &[Statement], frame: &mut [Four], room: &mut [Four])
+fn run_all<V: Value, T: Tables<V>>(
+    scene: &Scene<'_, T>,
+    statements: &[Statement],
+    frame: &mut [V],
+    room: &mut [V],
+)
     requires { most (map (statement_room (rooms scene.now)) statements.now) ≤ length room.old }
-    ensures { frame.new ≡ in_turn (map (run_in scene.now) statements.now) frame.old }
+    ensures { map V.bits frame.new ≡ in_turn (map (run_in (seen V.fill T.values scene.now)) statements.now) (map V.bits frame.old) }
 {
     for statement in statements {
         run(scene, statement, frame, room);
@@ -350,27 +427,29 @@ fn run_all(scene: &Scene<'_>, statements: &[Statement], frame: &mut [Four], room
 }
 
 // Whether a value counts as true.
-#[tactic(auto, using(crate::proofs::Callable::twice_not))]
-fn is_true(value: Four) -> bool
-    ensures { result ≡ is_1 (truth_bit value) }
+fn is_true<V: Value>(value: V) -> bool
+    ensures { result ≡ is_1 (truth_bit (V.bits value)) }
 {
-    is_one(value.logic_not().not())
+    match value.truth() {
+        Some(truth) => truth,
+        None => false,
+    }
 }
 
 // Runs the first item of a `case` with a label that is equal to the value at the size of the `case`, or else the last branch.
 #[cycle(eval)]
-fn case(
-    scene: &Scene<'_>,
+fn case<V: Value, T: Tables<V>>(
+    scene: &Scene<'_, T>,
     size: Size,
-    tested: Four,
+    tested: V,
     items: &[CaseItem],
     otherwise: &Statement,
-    frame: &mut [Four],
-    room: &mut [Four],
+    frame: &mut [V],
+    room: &mut [V],
 )
     requires items { most (map (item_room_of (rooms scene.now)) items.now) ≤ length room.old }
     requires otherwise { statement_room (rooms scene.now) otherwise.now ≤ length room.old }
-    ensures { frame.new ≡ first_branch (bits_at scene.now frame.old size) (at_size size.width size.signed tested) (map (branch_in scene.now) items.now) (run_in scene.now otherwise.now) frame.old }
+    ensures { map V.bits frame.new ≡ first_branch (bits_at (seen V.fill T.values scene.now) (map V.bits frame.old) size) (at_size size.width size.signed (V.bits tested)) (map (branch_in (seen V.fill T.values scene.now)) items.now) (run_in (seen V.fill T.values scene.now) otherwise.now) (map V.bits frame.old) }
 {
     for item in items {
         if has_label(scene, size, tested, item.labels.as_slice(), frame, room) {
@@ -383,16 +462,16 @@ fn case(
 
 // Whether a label is equal to the value at a size, x and z included.
 #[cycle(eval)]
-fn has_label(
-    scene: &Scene<'_>,
+fn has_label<V: Value, T: Tables<V>>(
+    scene: &Scene<'_, T>,
     size: Size,
-    tested: Four,
+    tested: V,
     labels: &[SizedExpr],
-    frame: &[Four],
-    room: &mut [Four],
+    frame: &[V],
+    room: &mut [V],
 ) -> bool
     requires { most (map (expr_room (rooms scene.now)) labels.now) ≤ length room.old }
-    ensures { result ≡ has_label (bits_at scene.now frame.now size) (at_size size.width size.signed tested) labels.now }
+    ensures { result ≡ has_label (bits_at (seen V.fill T.values scene.now) (map V.bits frame.now) size) (at_size size.width size.signed (V.bits tested)) labels.now }
 {
     for label in labels {
         let other = value(scene, frame, label, room);
@@ -405,9 +484,14 @@ fn has_label(
 
 // Puts the indices of the parts of a left side into the front of the room.
 #[cycle(eval)]
-fn indices(scene: &Scene<'_>, frame: &[Four], parts: &[Part], room: &mut [Four])
+fn indices<V: Value, T: Tables<V>>(
+    scene: &Scene<'_, T>,
+    frame: &[V],
+    parts: &[Part],
+    room: &mut [V],
+)
     requires { staged (map (part_room scene.now) parts.now) ≤ length room.old }
-    ensures { take (length parts.now) room.new ≡ map (index_in scene.now frame.now) parts.now }
+    ensures { take (length parts.now) (map V.bits room.new) ≡ map (index_in (seen V.fill T.values scene.now) (map V.bits frame.now)) parts.now }
 {
     for (i, part) in parts.iter().enumerate() {
         room[i] = part_index(scene, frame, part, &mut room[i..]);
@@ -416,21 +500,26 @@ fn indices(scene: &Scene<'_>, frame: &[Four], parts: &[Part], room: &mut [Four])
 
 // The index of a part of a left side, x where it has none.
 #[cycle(eval)]
-fn part_index(scene: &Scene<'_>, frame: &[Four], part: &Part, room: &mut [Four]) -> Four
+fn part_index<V: Value, T: Tables<V>>(
+    scene: &Scene<'_, T>,
+    frame: &[V],
+    part: &Part,
+    room: &mut [V],
+) -> V
     requires { part_room scene.now part.now ≤ length room.old }
-    ensures { result ≡ index_in scene.now frame.now part.now }
+    ensures { V.bits result ≡ index_in (seen V.fill T.values scene.now) (map V.bits frame.now) part.now }
 {
     match &part.target {
-        PartTarget::Bits(_, _) => unknown_bit(),
+        PartTarget::Bits(_, _) => V::nothing(),
         PartTarget::Index(_, _, index) => value(scene, frame, index, room),
         PartTarget::Word(_, _, index) => value(scene, frame, index, room),
     }
 }
 
 // Writes a value to the parts of a left side, from the left, whose indices have these values.
-fn assign(parts: &[Part], value: Four, frame: &mut [Four], indices: &[Four])
+fn assign<V: Value>(parts: &[Part], value: V, frame: &mut [V], indices: &[V])
     requires { length parts.now ≤ length indices.now }
-    ensures { frame.new ≡ assigned parts.now indices.now value frame.old }
+    ensures { map V.bits frame.new ≡ assigned V.fill parts.now (map V.bits indices.now) (V.bits value) (map V.bits frame.old) }
 {
     for (i, part) in parts.iter().enumerate() {
         write(part, indices[i], select(value, part.low, part.width), frame);
@@ -438,8 +527,8 @@ fn assign(parts: &[Part], value: Four, frame: &mut [Four], indices: &[Four])
 }
 
 // Writes bits to the place of a part: a function has no places but its own variables.
-fn write(part: &Part, index: Four, bits: Four, frame: &mut [Four])
-    ensures { frame.new ≡ written (target_of part.now.target index) bits frame.old }
+fn write<V: Value>(part: &Part, index: V, bits: V, frame: &mut [V])
+    ensures { map V.bits frame.new ≡ written V.fill (target_of part.now.target (V.bits index)) (V.bits bits) (map V.bits frame.old) }
 {
     match &part.target {
         PartTarget::Bits(variable, low) => put(frame, *variable, Some(Word::from(*low)), bits),
@@ -451,8 +540,8 @@ fn write(part: &Part, index: Four, bits: Four, frame: &mut [Four])
 }
 
 // Replaces bits of a variable from a place up, where there is one.
-fn put(frame: &mut [Four], variable: Variable, low: Option<Word>, bits: Four)
-    ensures { frame.new ≡ written (at_index (Bits variable) low) bits frame.old }
+fn put<V: Value>(frame: &mut [V], variable: Variable, low: Option<Word>, bits: V)
+    ensures { map V.bits frame.new ≡ written V.fill (at_index (Bits variable) low) (V.bits bits) (map V.bits frame.old) }
 {
     if let (Variable::Local(n), Some(low)) = (variable, low) {
         replace(frame, n as usize, low, bits);
@@ -461,8 +550,8 @@ fn put(frame: &mut [Four], variable: Variable, low: Option<Word>, bits: Four)
 
 // Replaces bits of a value of the frame from a place up.
 #[tactic(auto, using(std::proofs::lemmas::List::set_past))]
-fn replace(frame: &mut [Four], n: usize, low: Word, bits: Four)
-    ensures { frame.new ≡ slice_set frame.old n (replace_bits low bits (value_at frame.old n)) }
+fn replace<V: Value>(frame: &mut [V], n: usize, low: Word, bits: V)
+    ensures { map V.bits frame.new ≡ slice_set (map V.bits frame.old) n (replace_bits low (V.bits bits) (value_at V.fill (map V.bits frame.old) n)) }
 {
     if n < frame.len() {
         frame[n] = replaced(frame[n], low, bits);

@@ -8,14 +8,14 @@ ghost use Rattle.vod_four.specs.Four.{truth_bit};
 ghost use Rattle.vod_eval.specs.Pieces.{gate_start, gate_table, gate_output};
 ghost use Rattle.vod_eval.specs.Scenes.{operand};
 
-use crate::bits::{at_size, bit, is_one, one, unknown_bit, width, zero};
+use crate::bits::{at_size, bit, one, zero};
 use crate::labels::both;
 use vod_design::{BinaryOp, ComparisonOp, GateOp, LogicalOp, ReductionOp, ShiftOp, Size, UnaryOp};
-use vod_four::Four;
+use vod_value::Value;
 
 // `-` and `~`.
-pub fn unary(op: UnaryOp, a: Four) -> Four
-    ensures { result ≡ unary_bits op a }
+pub fn unary<V: Value>(op: UnaryOp, a: V) -> V
+    ensures { V.bits result ≡ unary_bits op (V.bits a) }
 {
     match op {
         UnaryOp::Minus => a.neg(),
@@ -24,9 +24,9 @@ pub fn unary(op: UnaryOp, a: Four) -> Four
 }
 
 // The operators on two values of one size.
-pub fn binary(op: BinaryOp, a: Four, b: Four) -> Four
-    requires { length a ≡ length b }
-    ensures { result ≡ binary_bits op a b }
+pub fn binary<V: Value>(op: BinaryOp, a: V, b: V) -> V
+    requires { length (V.bits a) ≡ length (V.bits b) }
+    ensures { V.bits result ≡ binary_bits op (V.bits a) (V.bits b) }
 {
     match op {
         BinaryOp::Add => a.add(b),
@@ -40,34 +40,34 @@ pub fn binary(op: BinaryOp, a: Four, b: Four) -> Four
 }
 
 // `<`.
-fn less(signed: bool, a: Four, b: Four) -> Four
-    requires { length a ≡ length b }
-    ensures { result ≡ less signed a b ∷ [] }
+fn less<V: Value>(signed: bool, a: V, b: V) -> V
+    requires { length (V.bits a) ≡ length (V.bits b) }
+    ensures { V.bits result ≡ less signed (V.bits a) (V.bits b) ∷ [] }
 {
-    if signed { a.lt_signed(b) } else { a.lt(b) }
+    if signed { a.less_signed(b) } else { a.less(b) }
 }
 
 // `===`.
 #[tactic(auto, using(crate::proofs::Cuts::identical_is))]
-fn identical(a: Four, b: Four) -> Four
-    requires { length a ≡ length b }
-    ensures { result ≡ identical_bit a b ∷ [] }
+fn identical<V: Value>(a: V, b: V) -> V
+    requires { length (V.bits a) ≡ length (V.bits b) }
+    ensures { V.bits result ≡ identical_bit (V.bits a) (V.bits b) ∷ [] }
 {
-    bit(a.case_eq(b))
+    bit(a.identical(b))
 }
 
 // A comparison of two values of one size.
-fn comparison(op: ComparisonOp, signed: bool, a: Four, b: Four) -> Four
-    requires { length a ≡ length b }
-    ensures { result ≡ comparison_bit op signed a b ∷ [] }
+fn comparison<V: Value>(op: ComparisonOp, signed: bool, a: V, b: V) -> V
+    requires { length (V.bits a) ≡ length (V.bits b) }
+    ensures { V.bits result ≡ comparison_bit op signed (V.bits a) (V.bits b) ∷ [] }
 {
     match op {
         ComparisonOp::Less => less(signed, a, b),
         ComparisonOp::LessEqual => less(signed, b, a).not(),
         ComparisonOp::Greater => less(signed, b, a),
         ComparisonOp::GreaterEqual => less(signed, a, b).not(),
-        ComparisonOp::Equal => a.eq(b),
-        ComparisonOp::NotEqual => a.eq(b).not(),
+        ComparisonOp::Equal => a.equal(b),
+        ComparisonOp::NotEqual => a.equal(b).not(),
         ComparisonOp::CaseEqual => identical(a, b),
         ComparisonOp::CaseNotEqual => identical(a, b).not(),
     }
@@ -75,10 +75,10 @@ fn comparison(op: ComparisonOp, signed: bool, a: Four, b: Four) -> Four
 
 // A comparison of two operands, at the larger of their sizes, as signed ones only where both are.
 #[tactic(auto, using(crate::proofs::Cuts::at_size_length), unfolding(vod_design::specs::Eval::compared))]
-pub fn compared(op: ComparisonOp, a: Four, a_signed: bool, b: Four, b_signed: bool) -> Four
-    ensures { result ≡ compared op (operand a a_signed) (operand b b_signed) ∷ [] }
+pub fn compared<V: Value>(op: ComparisonOp, a: V, a_signed: bool, b: V, b_signed: bool) -> V
+    ensures { V.bits result ≡ compared op (operand (V.bits a) a_signed) (operand (V.bits b) b_signed) ∷ [] }
 {
-    let size = width(a).max(width(b));
+    let size = a.width().max(b.width());
     let signed = both(a_signed, b_signed);
     comparison(
         op,
@@ -89,8 +89,8 @@ pub fn compared(op: ComparisonOp, a: Four, a_signed: bool, b: Four, b_signed: bo
 }
 
 // `&&` and `||`.
-pub fn logical(op: LogicalOp, a: Four, b: Four) -> Four
-    ensures { result ≡ logical_bit op (truth_bit a) (truth_bit b) ∷ [] }
+pub fn logical<V: Value>(op: LogicalOp, a: V, b: V) -> V
+    ensures { V.bits result ≡ logical_bit op (truth_bit (V.bits a)) (truth_bit (V.bits b)) ∷ [] }
 {
     match op {
         LogicalOp::And => a.logic_and(b),
@@ -99,8 +99,8 @@ pub fn logical(op: LogicalOp, a: Four, b: Four) -> Four
 }
 
 // The reductions.
-pub fn reduction(op: ReductionOp, a: Four) -> Four
-    ensures { result ≡ reduction_bit op a ∷ [] }
+pub fn reduction<V: Value>(op: ReductionOp, a: V) -> V
+    ensures { V.bits result ≡ reduction_bit op (V.bits a) ∷ [] }
 {
     match op {
         ReductionOp::And => a.all(),
@@ -113,36 +113,40 @@ pub fn reduction(op: ReductionOp, a: Four) -> Four
 }
 
 // The shifts.
-pub fn shifted(op: ShiftOp, signed: bool, amount: Four, a: Four) -> Four
-    ensures { result ≡ shift_bits op signed amount a }
+pub fn shifted<V: Value>(op: ShiftOp, signed: bool, amount: V, a: V) -> V
+    ensures { V.bits result ≡ shift_bits op signed (V.bits amount) (V.bits a) }
 {
     match op {
-        ShiftOp::Left => a.shl(amount),
-        ShiftOp::Right => a.shr(amount),
+        ShiftOp::Left => a.shift_left(amount),
+        ShiftOp::Right => a.shift_right(amount),
         ShiftOp::ArithmeticRight => right(signed, amount, a),
     }
 }
 
 // `>>>`, with copies of the upper bit where the value is signed.
-fn right(signed: bool, amount: Four, a: Four) -> Four
-    ensures { result ≡ shift_bits ShiftOp.ArithmeticRight signed amount a }
+fn right<V: Value>(signed: bool, amount: V, a: V) -> V
+    ensures { V.bits result ≡ shift_bits ShiftOp.ArithmeticRight signed (V.bits amount) (V.bits a) }
 {
-    if signed { a.sar(amount) } else { a.shr(amount) }
+    if signed {
+        a.shift_signed(amount)
+    } else {
+        a.shift_right(amount)
+    }
 }
 
 // Whether two values are the same at a size, x and z included.
 #[tactic(auto, using(crate::proofs::Cuts::at_size_length))]
-pub fn is_identical(size: Size, a: Four, b: Four) -> bool
-    ensures { result ≡ is_1 (identical_bit (at_size size.width size.signed a) (at_size size.width size.signed b)) }
+pub fn is_identical<V: Value>(size: Size, a: V, b: V) -> bool
+    ensures { result ≡ is_1 (identical_bit (at_size size.width size.signed (V.bits a)) (at_size size.width size.signed (V.bits b))) }
 {
     let one = at_size(a, size.width, size.signed);
     let other = at_size(b, size.width, size.signed);
-    is_one(identical(one, other))
+    one.identical(other)
 }
 
 // What a gate begins with, before its first input.
-pub fn gate_start(op: GateOp) -> Four
-    ensures { result ≡ gate_start op ∷ [] }
+pub fn gate_start<V: Value>(op: GateOp) -> V
+    ensures { V.bits result ≡ gate_start V.fill op ∷ [] }
 {
     match op {
         GateOp::And => one(),
@@ -151,17 +155,17 @@ pub fn gate_start(op: GateOp) -> Four
         GateOp::Nor => zero(),
         GateOp::Xor => zero(),
         GateOp::Xnor => zero(),
-        GateOp::Buf => unknown_bit(),
-        GateOp::Not => unknown_bit(),
+        GateOp::Buf => V::nothing(),
+        GateOp::Not => V::nothing(),
     }
 }
 
 // What a gate makes of its inputs so far and one more.
 #[tactic(auto, using(crate::proofs::Gates::zip_one, crate::proofs::Gates::one_bit))]
-pub fn gate_table(op: GateOp, so_far: Four, input: Four) -> Four
-    requires so_far { length so_far ≡ 1 }
-    requires input { length input ≡ 1 }
-    ensures { result ≡ gate_table op (upper_bit so_far) (upper_bit input) ∷ [] }
+pub fn gate_table<V: Value>(op: GateOp, so_far: V, input: V) -> V
+    requires so_far { length (V.bits so_far) ≡ 1 }
+    requires input { length (V.bits input) ≡ 1 }
+    ensures { V.bits result ≡ gate_table op (upper_bit (V.bits so_far)) (upper_bit (V.bits input)) ∷ [] }
 {
     match op {
         GateOp::And => so_far.and(input),
@@ -177,9 +181,9 @@ pub fn gate_table(op: GateOp, so_far: Four, input: Four) -> Four
 
 // What a gate makes of all its inputs together.
 #[tactic(auto, using(crate::proofs::Gates::map_one, crate::proofs::Gates::map_twice, crate::proofs::Gates::one_bit))]
-pub fn gate_output(op: GateOp, folded: Four) -> Four
-    requires { length folded ≡ 1 }
-    ensures { result ≡ gate_output op (upper_bit folded) ∷ [] }
+pub fn gate_output<V: Value>(op: GateOp, folded: V) -> V
+    requires { length (V.bits folded) ≡ 1 }
+    ensures { V.bits result ≡ gate_output op (upper_bit (V.bits folded)) ∷ [] }
 {
     match op {
         GateOp::And => folded,

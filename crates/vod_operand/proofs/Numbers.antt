@@ -34,8 +34,8 @@ sound_natural : (y : Looked) (b : Bool) → is_sound y ≡ b → b ≡ true → 
 sound_natural y true e h = ap (λ b. cond b (natural y) None) (sym e)
 sound_natural y false e h = absurd (cc)
 
-pub known_here : (c : code.Looked) (y : Looked) (t : SizedExpr) → Ok t ≡ c.tree → SeesAs c y (own y) → natural_of c.constant c.signed (eval [] nothing [] t) ≡ known_natural y
+pub known_here : (c : code.Looked) (y : Looked) (t : SizedExpr) → Ok t ≡ c.tree → SeesAs c y (own y) → natural_of c.constant c.signed (eval BX [] (nothing BX) [] t) ≡ known_natural y
 known_here c y t e s =
     let h = here c y t (own y) e s in
-    ap (λ b. natural_of b c.signed (eval [] nothing [] t)) s.constant ∙ ap (λ b. natural_of y.constant b (eval [] nothing [] t)) s.signed
-    ∙ ap (λ u. natural_of y.constant y.signed (eval [] nothing [] u)) h.1 ∙ sound_natural y (is_sound y) refl (ap are_none h.0)
+    ap (λ b. natural_of b c.signed (eval BX [] (nothing BX) [] t)) s.constant ∙ ap (λ b. natural_of y.constant b (eval BX [] (nothing BX) [] t)) s.signed
+    ∙ ap (λ u. natural_of y.constant y.signed (eval BX [] (nothing BX) [] u)) h.1 ∙ sound_natural y (is_sound y) refl (ap are_none h.0)

@@ -1,6 +1,6 @@
 -- What an expression is by itself, and how it stands at a size and sign (IEEE 1364-2005, 5.4 and 5.5); numbers among them, and faults.
 use Rattle.std.specs.Prelude.{ℕ, ◌+◌, ◌*◌, nat_lt, Bool, true, false, not, ◌&&◌, if◌then◌else◌, List, [], ◌∷◌, ◌++◌, Option, None, Some}
-use Rattle.vod_bits.specs.Bit.{Bit, is_1}
+use Rattle.vod_bits.specs.Bit.{Bit, BX, is_1}
 use Rattle.vod_bits.specs.Value.{bits_of, number_of, upper_bit, all_known}
 use Rattle.vod_bits.specs.declared.TheConstants.{WIDTH}
 use Rattle.vod_tree.specs.declared.ident.Number.{Number}
@@ -48,7 +48,7 @@ looked width signed constant faults sized = record { place = 0; width = width; s
 
 -- the value of a constant expression, by itself
 abbrev pub value : Looked → List Bit
-value x = eval [] nothing [] (own x)
+value x = eval BX [] (nothing BX) [] (own x)
 
 -- the number that it stands for, where it is constant and not negative
 abbrev pub natural : Looked → Option ℕ

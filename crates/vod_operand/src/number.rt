@@ -1,6 +1,6 @@
 //! The numbers that constant parts stand for.
 ghost use Rattle.std.specs.Prelude.{◌≡◌, ◌≤◌, ◌&&◌, not, if◌then◌else◌, true, false, [], Some, None, Ok, IfOk, vec_len};
-ghost use Rattle.vod_bits.specs.Bit.{is_1};
+ghost use Rattle.vod_bits.specs.Bit.{BX, is_1};
 ghost use Rattle.vod_bits.specs.Value.{bits_of, number_of, upper_bit, all_known};
 ghost use Rattle.vod_design.specs.declared.sized.SizedKind.TheVariants as kind;
 ghost use Rattle.vod_design.specs.Values.{bounded, at_size};
@@ -14,7 +14,7 @@ use crate::tree::{Looked, both_hold, unsized_node};
 use std::alloc::{AllocError, Global};
 use vod_bits::{Bits, WIDTH, Word};
 use vod_design::{SizedExpr, SizedKind};
-use vod_eval::{call_rooms, expr_room, value_of};
+use vod_eval::{Lists, call_rooms, expr_room, value_of};
 use vod_four::Four;
 use vod_tree::Number;
 
@@ -64,10 +64,14 @@ fn room(alloc: Global, e: &SizedExpr) -> Result<Vec<Four>, AllocError>
 
 /// The value of an expression that reads nothing.
 pub fn value(alloc: Global, e: &SizedExpr) -> Result<Four, AllocError>
-    ensures { IfOk result (λ v. v ≡ eval [] nothing [] e.now) }
+    ensures { IfOk result (λ v. v ≡ eval BX [] (nothing BX) [] e.now) }
 {
     let mut room = room(alloc, e)?;
-    Ok(value_of(&[], &[], &[], e, &mut room))
+    let none = Lists {
+        signals: &[],
+        memories: &[],
+    };
+    Ok(value_of(&[], &none, e, &mut room))
 }
 
 // The number that a known value stands for.
@@ -100,7 +104,7 @@ fn number_of_tree(
     constant: bool,
     signed: bool,
 ) -> Result<Option<Word>, AllocError>
-    ensures { IfOk result (λ n. n ≡ natural_of constant signed (eval [] nothing [] tree.now)) }
+    ensures { IfOk result (λ n. n ≡ natural_of constant signed (eval BX [] (nothing BX) [] tree.now)) }
 {
     if !constant {
         return Ok(None);

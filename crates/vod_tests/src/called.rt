@@ -10,7 +10,7 @@ use vod_design::{
     BinaryOp, Body, Function, Locals, Named, Part, PartTarget, Size, SizedExpr, SizedKind,
     Statement, Variable,
 };
-use vod_eval::{call_rooms, expr_room, value_of};
+use vod_eval::{Lists, call_rooms, expr_room, value_of};
 use vod_four::Four;
 
 fn sized(width: u8, kind: SizedKind) -> SizedExpr {
@@ -134,7 +134,11 @@ fn called(alloc: Global, functions: &[Function], argument: Four) -> Result<Four,
         Ok(room) => room,
         Err(error) => return Err(error),
     };
-    Ok(value_of(functions, &[argument], &[], &call, &mut room))
+    let tables = Lists {
+        signals: &[argument],
+        memories: &[],
+    };
+    Ok(value_of(functions, &tables, &call, &mut room))
 }
 
 #[test]

@@ -4,7 +4,7 @@ use Rattle.std.specs.Prelude.{MatchResult}
 use Rattle.std.specs.List.{All, Contains}
 use Rattle.std.proofs.lemmas.Bool.Decides.{nat_tests}
 use Rattle.std.proofs.lemmas.List.Elements.{All-nil, All-cons, Contains-append_right}
-use Rattle.vod_bits.specs.Bit.{Bit}
+use Rattle.vod_bits.specs.Bit.{Bit, BX}
 use Rattle.vod_bits.specs.Value.{all_known}
 use Rattle.vod_design.specs.declared.sized.SizedExpr.{SizedExpr}
 use Rattle.vod_design.specs.Run.{eval, nothing}
@@ -85,10 +85,10 @@ known_is (Err (refusals.Width p)) y e h = absurd h
 known_is (Err refusals.Open) y e h = absurd h
 known_is (Err refusals.Memory) y e h = tt
 
-pub constant_here : (r : Result Constant WidthFault) (c : code.Looked) (y : Looked) (e : SizedExpr) → Ok e ≡ c.tree → SeesAs c y (own y) → IsKnown r (eval [] nothing [] e) c.constant c.signed c.place → IsConstant r y
+pub constant_here : (r : Result Constant WidthFault) (c : code.Looked) (y : Looked) (e : SizedExpr) → Ok e ≡ c.tree → SeesAs c y (own y) → IsKnown r (eval BX [] (nothing BX) [] e) c.constant c.signed c.place → IsConstant r y
 constant_here r c y e t h known =
     let found = here c y e (own y) t h in
-    let A : SizedExpr → Type 0 = λ u. IsKnown r (eval [] nothing [] u) c.constant c.signed c.place in
+    let A : SizedExpr → Type 0 = λ u. IsKnown r (eval BX [] (nothing BX) [] u) c.constant c.signed c.place in
     let B : Bool → Type 0 = λ k. IsKnown r (value y) k c.signed c.place in
     let C : Bool → Type 0 = λ s. IsKnown r (value y) y.constant s c.place in
     let D : ℕ → Type 0 = λ p. IsKnown r (value y) y.constant y.signed p in

@@ -1,5 +1,6 @@
 //! What an expression is where it stands, and what a constant one stands for.
 ghost use Rattle.std.specs.Prelude.{◌≡◌, ◌≤◌, ◌&&◌, List, [], true, false, Some, MatchResult, All, Contains};
+ghost use Rattle.vod_bits.specs.Bit.{BX};
 ghost use Rattle.vod_bits.specs.Value.{all_known};
 ghost use Rattle.vod_design.specs.Run.{eval, nothing};
 ghost use Rattle.vod_operand.specs.declared.fault.Fault.{Fault};
@@ -109,7 +110,7 @@ fn known(
     signed: bool,
     place: u32,
 ) -> Result<Constant, WidthFault>
-    ensures { MatchResult result (λ c. (constant ≡ true) × (all_known (eval [] nothing [] e.now) ≡ true) × (c.value ≡ eval [] nothing [] e.now) × (c.signed ≡ signed)) (λ f. HasNoValue f (constant && all_known (eval [] nothing [] e.now)) place) }
+    ensures { MatchResult result (λ c. (constant ≡ true) × (all_known (eval BX [] (nothing BX) [] e.now) ≡ true) × (c.value ≡ eval BX [] (nothing BX) [] e.now) × (c.signed ≡ signed)) (λ f. HasNoValue f (constant && all_known (eval BX [] (nothing BX) [] e.now)) place) }
 {
     if !constant {
         return Err(WidthFault::Rule { place });

@@ -1,74 +1,77 @@
-use Rattle.std.proofs.Common.{◌≡◌, ◌+◌, ◌*◌, max, ◌∷◌, [], map, flat_map, take, drop}
+use Rattle.std.proofs.Common.{◌≡◌, ◌+◌, ◌*◌, max, ◌∷◌, [], map, flat_map, take, drop, option_map}
 use Rattle.vod_eval.specs.Pieces.{bits_of_option, lowest, gate_start, gate_table}
 use Rattle.vod_design.specs.Values.{at_size}
 use Rattle.vod_design.specs.Eval.{fold_inputs}
 use Rattle.vod_design.specs.Run.{in_turn, has_label, first_branch}
-use Rattle.vod_eval.specs.Scenes.{run_in, bits_in, bits_at, input_in, index_in, branch_in}
+use Rattle.vod_eval.specs.Scenes.{seen, run_in, bits_in, bits_at, input_in, index_in, branch_in}
 use Rattle.vod_eval.specs.Room.{most}
 use Rattle.vod_eval.proofs.Depth.{depth, part_depth, statement_depth, item_depth, base}
 use Rattle.vod_eval.proofs.eval.+eval.Given as goal
 
 abbrev pub decreases-value : goal.decreases-value
-decreases-value l = base l.scene.now + 5 * depth l.e.now + 2
+decreases-value g l = base l.scene.now + 5 * depth l.e.now + 2
 
 abbrev pub decreases-unsized_value : goal.decreases-unsized_value
-decreases-unsized_value l = base l.scene.now + 5 * depth l.e.now + 1
+decreases-unsized_value g l = base l.scene.now + 5 * depth l.e.now + 1
+
+abbrev pub decreases-chosen : goal.decreases-chosen
+decreases-chosen g l = base l.scene.now + 5 * max (depth l.a.now) (depth l.b.now) + 3
 
 abbrev pub decreases-concat : goal.decreases-concat
-decreases-concat l = base l.scene.now + 5 * most (map depth l.parts.now) + 4
+decreases-concat g l = base l.scene.now + 5 * most (map depth l.parts.now) + 4
 
 abbrev pub decreases-folded : goal.decreases-folded
-decreases-folded l = base l.scene.now + 5 * most (map depth l.inputs.now) + 4
+decreases-folded g l = base l.scene.now + 5 * most (map depth l.inputs.now) + 4
 
 abbrev pub decreases-call : goal.decreases-call
-decreases-call l = base l.scene.now + 5 * most (map depth l.arguments.now) + 5
+decreases-call g l = base l.scene.now + 5 * most (map depth l.arguments.now) + 5
 
 abbrev pub decreases-values : goal.decreases-values
-decreases-values l = base l.scene.now + 5 * most (map depth l.exprs.now) + 4
+decreases-values g l = base l.scene.now + 5 * most (map depth l.exprs.now) + 4
 
 abbrev pub decreases-run : goal.decreases-run
-decreases-run l = base l.scene.now + 5 * statement_depth l.statement.now + 2
+decreases-run g l = base l.scene.now + 5 * statement_depth l.statement.now + 2
 
 abbrev pub decreases-run_all : goal.decreases-run_all
-decreases-run_all l = base l.scene.now + 5 * most (map statement_depth l.statements.now) + 4
+decreases-run_all g l = base l.scene.now + 5 * most (map statement_depth l.statements.now) + 4
 
 abbrev pub decreases-case : goal.decreases-case
-decreases-case l = base l.scene.now + 5 * max (most (map item_depth l.items.now)) (statement_depth l.otherwise.now) + 5
+decreases-case g l = base l.scene.now + 5 * max (most (map item_depth l.items.now)) (statement_depth l.otherwise.now) + 5
 
 abbrev pub decreases-has_label : goal.decreases-has_label
-decreases-has_label l = base l.scene.now + 5 * most (map depth l.labels.now) + 4
+decreases-has_label g l = base l.scene.now + 5 * most (map depth l.labels.now) + 4
 
 abbrev pub decreases-indices : goal.decreases-indices
-decreases-indices l = base l.scene.now + 5 * most (map part_depth l.parts.now) + 4
+decreases-indices g l = base l.scene.now + 5 * most (map part_depth l.parts.now) + 4
 
 abbrev pub decreases-part_index : goal.decreases-part_index
-decreases-part_index l = base l.scene.now + 5 * part_depth l.part.now + 3
+decreases-part_index g l = base l.scene.now + 5 * part_depth l.part.now + 3
 
 abbrev pub invariant-concat-loop-part : goal.invariant-concat-loop-part
-invariant-concat-loop-part l = bits_of_option l.bits ≡ lowest (flat_map (bits_in l.scene l.frame) (take l.part-index l.parts))
+invariant-concat-loop-part g l = bits_of_option (option_map g.V.Value.bits l.bits) ≡ lowest (flat_map (bits_in (seen g.V.Value.fill g.T.Tables.values l.scene) (map g.V.Value.bits l.frame)) (take l.part-index l.parts))
 
 abbrev pub invariant-folded-loop-input : goal.invariant-folded-loop-input
-invariant-folded-loop-input l = l.so_far ≡ fold_inputs (gate_table l.op) (gate_start l.op) (flat_map (input_in l.scene l.frame) (take l.input-index l.inputs)) ∷ []
+invariant-folded-loop-input g l = g.V.Value.bits l.so_far ≡ fold_inputs (gate_table l.op) (gate_start g.V.Value.fill l.op) (flat_map (input_in (seen g.V.Value.fill g.T.Tables.values l.scene) (map g.V.Value.bits l.frame)) (take l.input-index l.inputs)) ∷ []
 
 abbrev pub invariant-values-loop-i : goal.invariant-values-loop-i
-invariant-values-loop-i l = take l.i l.room ≡ map (bits_in l.scene l.frame) (take l.i l.exprs)
+invariant-values-loop-i g l = take l.i (map g.V.Value.bits l.room) ≡ map (bits_in (seen g.V.Value.fill g.T.Tables.values l.scene) (map g.V.Value.bits l.frame)) (take l.i l.exprs)
 
 abbrev pub invariant-indices-loop-i : goal.invariant-indices-loop-i
-invariant-indices-loop-i l = take l.i l.room ≡ map (index_in l.scene l.frame) (take l.i l.parts)
+invariant-indices-loop-i g l = take l.i (map g.V.Value.bits l.room) ≡ map (index_in (seen g.V.Value.fill g.T.Tables.values l.scene) (map g.V.Value.bits l.frame)) (take l.i l.parts)
 
 abbrev pub invariant-run_all-loop-statement : goal.invariant-run_all-loop-statement
-invariant-run_all-loop-statement l =
-    in_turn (map (run_in l.scene) (drop l.statement-index l.statements)) l.frame ≡ in_turn (map (run_in l.scene) l.statements) l.fn.frame
+invariant-run_all-loop-statement g l =
+    in_turn (map (run_in (seen g.V.Value.fill g.T.Tables.values l.scene)) (drop l.statement-index l.statements)) (map g.V.Value.bits l.frame) ≡ in_turn (map (run_in (seen g.V.Value.fill g.T.Tables.values l.scene)) l.statements) (map g.V.Value.bits l.fn.frame)
 
 abbrev pub invariant-has_label-loop-label : goal.invariant-has_label-loop-label
-invariant-has_label-loop-label l =
-    has_label (bits_at l.scene l.frame l.size) (at_size l.size.width l.size.signed l.tested) (drop l.label-index l.labels)
-    ≡ has_label (bits_at l.scene l.frame l.size) (at_size l.size.width l.size.signed l.tested) l.labels
+invariant-has_label-loop-label g l =
+    has_label (bits_at (seen g.V.Value.fill g.T.Tables.values l.scene) (map g.V.Value.bits l.frame) l.size) (at_size l.size.width l.size.signed (g.V.Value.bits l.tested)) (drop l.label-index l.labels)
+    ≡ has_label (bits_at (seen g.V.Value.fill g.T.Tables.values l.scene) (map g.V.Value.bits l.frame) l.size) (at_size l.size.width l.size.signed (g.V.Value.bits l.tested)) l.labels
 
 abbrev pub invariant-case-loop-item : goal.invariant-case-loop-item
-invariant-case-loop-item l = record {
+invariant-case-loop-item g l = record {
   same : l.frame ≡ l.fn.frame;
   left :
-      first_branch (bits_at l.scene l.frame l.size) (at_size l.size.width l.size.signed l.tested) (map (branch_in l.scene) (drop l.item-index l.items)) (run_in l.scene l.otherwise) l.frame
-      ≡ first_branch (bits_at l.scene l.frame l.size) (at_size l.size.width l.size.signed l.tested) (map (branch_in l.scene) l.items) (run_in l.scene l.otherwise) l.frame;
+      first_branch (bits_at (seen g.V.Value.fill g.T.Tables.values l.scene) (map g.V.Value.bits l.frame) l.size) (at_size l.size.width l.size.signed (g.V.Value.bits l.tested)) (map (branch_in (seen g.V.Value.fill g.T.Tables.values l.scene)) (drop l.item-index l.items)) (run_in (seen g.V.Value.fill g.T.Tables.values l.scene) l.otherwise) (map g.V.Value.bits l.frame)
+      ≡ first_branch (bits_at (seen g.V.Value.fill g.T.Tables.values l.scene) (map g.V.Value.bits l.frame) l.size) (at_size l.size.width l.size.signed (g.V.Value.bits l.tested)) (map (branch_in (seen g.V.Value.fill g.T.Tables.values l.scene)) l.items) (run_in (seen g.V.Value.fill g.T.Tables.values l.scene) l.otherwise) (map g.V.Value.bits l.frame);
 }

@@ -3,4 +3,4 @@ use Rattle.vod_eval.specs.Scenes.{unknown_of}
 use Rattle.vod_eval.proofs.eval.clear.Given as goal
 
 abbrev pub invariant-loop-i : goal.invariant-loop-i
-invariant-loop-i l = l.variables ≡ map unknown_of (take l.i l.locals) ++ drop l.i l.initial.variables
+invariant-loop-i g l = map g.V.Value.bits l.variables ≡ map (unknown_of g.V.Value.fill) (take l.i l.locals) ++ drop l.i (map g.V.Value.bits l.initial.variables)

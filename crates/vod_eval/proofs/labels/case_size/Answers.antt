@@ -1,7 +1,7 @@
 use Rattle.std.proofs.Common.{◌∙◌, ◌+◌, sym, ap, arith, drop}
 use Rattle.vod_eval.specs.Sizes.{joint, common, labels_of}
 use Rattle.vod_eval.proofs.Commons.{joint_none, joint_twice, common_more}
-use Rattle.vod_eval.proofs.Lists.{drop_item, drop_past}
+use Rattle.vod_eval.proofs.Kept.{drop_item, drop_past}
 use Rattle.vod_eval.proofs.labels.case_size.Goals as goal
 
 pub loop-item-preserved : goal.loop-item-preserved

@@ -1,7 +1,7 @@
 use Rattle.std.proofs.Common.{◌∙◌, ◌+◌, sym, ap, arith, drop}
 use Rattle.vod_eval.specs.Sizes.{own, joint, common}
 use Rattle.vod_eval.proofs.Commons.{joint_none, joint_twice}
-use Rattle.vod_eval.proofs.Lists.{drop_item, drop_past}
+use Rattle.vod_eval.proofs.Kept.{drop_item, drop_past}
 use Rattle.vod_eval.proofs.labels.with_labels.Goals as goal
 
 pub loop-label-preserved : goal.loop-label-preserved

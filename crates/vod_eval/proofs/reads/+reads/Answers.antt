@@ -1,11 +1,11 @@
 -- What each kind of expression reads, by its equation.
-use Rattle.std.proofs.Common.{◌≡◌, ◌∙◌, List, ◌++◌, sym, ap, arith, append-nil, append_assoc}
+use Rattle.std.proofs.Common.{◌∙◌, List, ◌++◌, sym, ap, arith, append-nil, append_assoc}
 use Rattle.vod_design.specs.declared.sized.SizedKind.TheOpen.{SizedKind-F}
 use Rattle.vod_design.specs.declared.sized.SizedKind.TheVariants.{rolls-Number, rolls-Name, rolls-Select, rolls-Index, rolls-Word, rolls-WordIndex, rolls-Unary, rolls-Binary, rolls-Comparison, rolls-LogicalNot, rolls-Logical, rolls-Reduction, rolls-Shift, rolls-Conditional, rolls-Concat, rolls-Replicate, rolls-Call, rolls-Gate}
 use Rattle.vod_design.specs.Reads.{reads}
 use Rattle.vod_eval.proofs.Layers.{reads_at}
 use Rattle.vod_design.specs.declared.read.Read.{Read}
-use Rattle.vod_eval.proofs.Lists.{flat_map_map}
+use Rattle.vod_eval.proofs.Kept.{flat_map_map}
 use Rattle.vod_eval.proofs.ReadLists.{behind, more, whole_list}
 use Rattle.vod_eval.proofs.reads.+reads.Goals as goal
 

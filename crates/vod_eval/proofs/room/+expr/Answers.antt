@@ -4,7 +4,7 @@ use Rattle.vod_design.specs.declared.sized.SizedKind.TheOpen.{SizedKind-F}
 use Rattle.vod_design.specs.declared.sized.SizedKind.TheVariants.{rolls-Index, rolls-WordIndex, rolls-Unary, rolls-Binary, rolls-Comparison, rolls-LogicalNot, rolls-Logical, rolls-Reduction, rolls-Shift, rolls-Conditional, rolls-Concat, rolls-Replicate, rolls-Call, rolls-Gate, rolls-Number, rolls-Name, rolls-Select, rolls-Word}
 use Rattle.vod_eval.specs.Room.{room_in, saturated, expr_room, staged}
 use Rattle.vod_eval.proofs.Layers.{room_at}
-use Rattle.vod_eval.proofs.Lists.{most_take, staged_take}
+use Rattle.vod_eval.proofs.Kept.{most_take, staged_take}
 use Rattle.vod_eval.proofs.room.+expr.Goals as goal
 
 pub expr_room-returns-in-Index : goal.expr_room-returns-in-Index

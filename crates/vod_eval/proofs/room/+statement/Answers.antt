@@ -5,7 +5,7 @@ use Rattle.vod_design.specs.declared.statement.Statement.TheOpen.{Statement-F}
 use Rattle.vod_design.specs.declared.statement.Statement.TheVariants.{rolls-Assign, rolls-If, rolls-Case, rolls-Begin, rolls-Empty}
 use Rattle.vod_eval.specs.Room.{room_in, saturated, expr_room, index_room, statement_room, item_room_of, most, staged}
 use Rattle.vod_eval.proofs.Layers.{statement_room_at, item_room_at}
-use Rattle.vod_eval.proofs.Lists.{most_take}
+use Rattle.vod_eval.proofs.Kept.{most_take}
 use Rattle.vod_eval.proofs.room.+statement.Goals as goal
 
 pub statement_room-returns-in-Assign : goal.statement_room-returns-in-Assign

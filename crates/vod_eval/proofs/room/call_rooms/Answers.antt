@@ -1,7 +1,7 @@
 use Rattle.std.proofs.Common.{◌≡◌, ◌+◌, ◌++◌, ◌∷◌, [], ◌∙◌, suc, ap, arith, add-one, length}
 use Rattle.vod_eval.specs.Room.{room_in, call_room, statement_room}
-use Rattle.vod_eval.proofs.Lists.{get_there}
-use Rattle.vod_eval.proofs.Tables.{table, table_of, next_room}
+use Rattle.vod_eval.proofs.Kept.{get_there}
+use Rattle.vod_eval.proofs.RoomTable.{table, table_of, next_room}
 use Rattle.vod_eval.proofs.room.call_rooms.Goals as goal
 
 pub loop-function-preserved : goal.loop-function-preserved

@@ -1,5 +1,5 @@
 use Rattle.std.proofs.Common.{◌≡◌}
-use Rattle.vod_eval.proofs.Tables.{table_of}
+use Rattle.vod_eval.proofs.RoomTable.{table_of}
 use Rattle.vod_eval.proofs.room.call_rooms.Given as goal
 
 abbrev pub invariant-loop-function : goal.invariant-loop-function

@@ -1,6 +1,6 @@
 use Rattle.std.proofs.Common.{arith}
 use Rattle.vod_eval.specs.Room.{room_in, index_room}
-use Rattle.vod_eval.proofs.Lists.{staged_take}
+use Rattle.vod_eval.proofs.Kept.{staged_take}
 use Rattle.vod_eval.proofs.room.parts_room.Goals as goal
 
 pub loop-i-preserved : goal.loop-i-preserved

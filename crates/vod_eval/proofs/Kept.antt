@@ -3,7 +3,7 @@ use Rattle.std.proofs.Common.{◌≡◌, ℕ, zero, suc, ◌+◌, ◌≤◌, ◌
 use Rattle.std.specs.List.{list_any}
 use Rattle.std.proofs.Math.ListN.{set, drop_of_length-le}
 use Rattle.std.proofs.Math.Seq.{take-suc, take-suc-set, set-append_seam}
-use Rattle.std.proofs.lemmas.List.{append-nil, length-take-le, take_at, map-append, length-map}
+use Rattle.std.proofs.lemmas.List.{append-nil, length-take-le, take_at, take-map, map-append, map-set, length-map}
 use Rattle.vod_eval.specs.Room.{most, staged}
 
 pub most_at : {A : Type 0} (f : A → ℕ) (xs : List A) (i : ℕ) (d : A) → i < length xs → f (get_or xs i d) ≤ most (map f xs)
@@ -55,12 +55,21 @@ pub any_here : {A : Type 0} (f : A → Bool) (xs : List A) (i : ℕ) (x : A) →
 any_here f xs i x is h test = ap (list_any f) (drop_item xs i x is h) ∙ ap (λ b. b || list_any f (drop (i + 1) xs)) test
 
 -- a value more is kept at the front of the room; `later` is what the room's rest became
-pub kept_more : {A X : Type 0} (f : A → X) (xs : List A) (room later : List X) (i : ℕ) (x : A) (v : X) → x ≡ get_or xs i x → i < length xs → i < length room
+kept_next : {A X : Type 0} (f : A → X) (xs : List A) (room later : List X) (i : ℕ) (x : A) (v : X) → x ≡ get_or xs i x → i < length xs → i < length room
     → i < length (take i room ++ later) → take i room ≡ map f (take i xs) → v ≡ f x → take (i + 1) (set (take i room ++ later) i v) ≡ map f (take (i + 1) xs)
-kept_more f xs room later i x v is h l m kept e =
+kept_next f xs room later i x v is h l m kept e =
     let len : length (take i room) ≡ i = length-take-le i room (omega arith) in
     rw add-one (take-suc-set (take i room ++ later) i v m ∙ ap (λ ys. ys ++ v ∷ []) (take_at (take i room) later i len ∙ kept) ∙ ap (λ y. map f (take i xs) ++ y ∷ []) e
     ∙ sym (ap (map f) (rw (← add-one) (take_item xs i x is h)) ∙ map-append f (take i xs) (x ∷ [])))
+
+-- the same of values that are seen as others
+pub kept_more : {A V X : Type 0} (b : V → X) (f : A → X) (xs : List A) (room later : List V) (i : ℕ) (x : A) (v : V) → x ≡ get_or xs i x → i < length xs → i < length room
+    → i < length (take i room ++ later) → take i (map b room) ≡ map f (take i xs) → b v ≡ f x → take (i + 1) (map b (set (take i room ++ later) i v)) ≡ map f (take (i + 1) xs)
+kept_more b f xs room later i x v is h l m kept e =
+    let front : map b (take i room ++ later) ≡ take i (map b room) ++ map b later = map-append b (take i room) later ∙ ap (λ ys. ys ++ map b later) (sym (take-map b i room)) in
+    let long : i < length (map b room) = omega (arith, length-map room b) in
+    let inside : i < length (take i (map b room) ++ map b later) = omega (arith, length-map (take i room ++ later) b, ap length front) in
+    ap (take (i + 1)) (map-set b (take i room ++ later) i v ∙ ap (λ ys. set ys i (b v)) front) ∙ kept_next f xs (map b room) (map b later) i x (b v) is h long inside kept e
 
 pub map_take_more : {A X : Type 0} (f : A → X) (xs : List A) (i : ℕ) (x : A) → x ≡ get_or xs i x → i < length xs → map f (take (i + 1) xs) ≡ map f (take i xs) ++ f x ∷ []
 map_take_more f xs i x is h = ap (map f) (take_item xs i x is h) ∙ map-append f (take i xs) (x ∷ [])
@@ -75,14 +84,25 @@ pub map_take_length : {A X : Type 0} (f : A → X) (xs : List A) (i : ℕ) → i
 map_take_length f xs i h = length-map (take i xs) f ∙ length-take-le i xs h
 
 -- what stands at the front of a function's room as it is entered: its inputs, what was cleared behind them, and its result
-pub front_of : {X : Type 0} (inputs locals room cleared rest later : List X) (m n : ℕ) (v : X) → take m room ≡ inputs → length inputs ≡ m → cleared ≡ locals ++ rest → length locals ≡ n
+front_of_seen : {X : Type 0} (inputs locals room cleared rest later : List X) (m n : ℕ) (v : X) → take m room ≡ inputs → length inputs ≡ m → cleared ≡ locals ++ rest → length locals ≡ n
     → m + n < length (take m room) + length cleared → take (m + n + 1) (set (take m room ++ (cleared ++ later)) (m + n) v) ≡ inputs ++ locals ++ v ∷ []
-front_of inputs locals room cleared rest later m n v p q r s l =
+front_of_seen inputs locals room cleared rest later m n v p q r s l =
     let h : m + n < length (take m room ++ (cleared ++ later)) = omega (arith, length-append (take m room) (cleared ++ later), length-append cleared later) in
     let whole : take m room ++ (cleared ++ later) ≡ (inputs ++ locals) ++ (rest ++ later)
     = ap (λ xs. xs ++ (cleared ++ later)) p ∙ ap (λ xs. inputs ++ (xs ++ later)) r ∙ ap (λ xs. inputs ++ xs) (append_assoc locals rest later) ∙ sym (append_assoc inputs locals (rest ++ later)) in
     let len : length (inputs ++ locals) ≡ m + n = omega (arith, length-append inputs locals) in
     rw add-one (take-suc-set (take m room ++ (cleared ++ later)) (m + n) v h ∙ ap (λ xs. take (m + n) xs ++ v ∷ []) whole ∙ ap (λ xs. xs ++ v ∷ []) (take_at (inputs ++ locals) (rest ++ later) (m + n) len))
+
+pub front_of : {V X : Type 0} (b : V → X) (inputs locals rest : List X) (room cleared later : List V) (m n : ℕ) (v : V) → take m (map b room) ≡ inputs → length inputs ≡ m
+    → map b cleared ≡ locals ++ rest → length locals ≡ n → m + n < length (take m room) + length cleared
+    → take (m + n + 1) (map b (set (take m room ++ (cleared ++ later)) (m + n) v)) ≡ inputs ++ locals ++ b v ∷ []
+front_of b inputs locals rest room cleared later m n v p q r s l =
+    let whole : map b (take m room ++ (cleared ++ later)) ≡ take m (map b room) ++ (map b cleared ++ map b later)
+    = map-append b (take m room) (cleared ++ later) ∙ ap (λ ys. map b (take m room) ++ ys) (map-append b cleared later) ∙ ap (λ ys. ys ++ (map b cleared ++ map b later)) (sym (take-map b m room)) in
+    let front : length (take m (map b room)) ≡ length (take m room) = ap length (take-map b m room) ∙ length-map (take m room) b in
+    let long : m + n < length (take m (map b room)) + length (map b cleared) = omega (arith, front, length-map cleared b) in
+    ap (take (m + n + 1)) (map-set b (take m room ++ (cleared ++ later)) (m + n) v ∙ ap (λ ys. set ys (m + n) (b v)) whole)
+    ∙ front_of_seen inputs locals (map b room) (map b cleared) rest (map b later) m n (b v) p q r s long
 
 pub get_same : {X : Type 0} (xs : List X) (i : ℕ) (d e : X) → i < length xs → get_or xs i d ≡ get_or xs i e
 get_same [] i d e h = absurd (omega arith)

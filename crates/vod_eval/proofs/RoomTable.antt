@@ -5,7 +5,7 @@ use Rattle.std.proofs.lemmas.Bool.{cases_lt}
 use Rattle.std.proofs.lemmas.Bool.Decides.{eqb_tells}
 use Rattle.vod_design.specs.declared.statement.Function.{Function}
 use Rattle.vod_eval.specs.Room.{room_in, statement_room, function_room, call_room}
-use Rattle.vod_eval.proofs.Lists.{get_seam}
+use Rattle.vod_eval.proofs.Kept.{get_seam}
 
 -- the rooms of calls of the first k functions
 abbrev pub table_of : List Function → ℕ → List ℕ
