@@ -12,12 +12,13 @@ use Rattle.vod_design.specs.declared.statement.Part.{Part}
 use Rattle.vod_design.specs.declared.statement.PartTarget.{PartTarget}
 use Rattle.vod_design.specs.declared.statement.PartTarget.TheVariants as part
 use Rattle.vod_design.specs.declared.statement.Statement.{Statement}
+use Rattle.vod_design.specs.declared.statement.Target.{Target}
 use Rattle.vod_design.specs.declared.statement.Statement.TheOpen.{Statement-F, CaseItem-F}
 use Rattle.vod_design.specs.declared.statement.Statement.TheFolds.{fold-CaseItem, map-Statement, map-CaseItem, fold-roll-Statement, fold-roll-CaseItem, ind-Statement}
 use Rattle.vod_design.specs.declared.statement.Statement.TheViews.{roll-Statement, roll-CaseItem}
 use Rattle.vod_design.specs.Values.{Values, Frame, Operand, bounded, select_bits}
 use Rattle.vod_design.specs.Eval.{Calls, identical_bit, operand_of}
-use Rattle.vod_design.specs.Run.{Target, Branch, index_bits, target_of, written, assigned, in_turn, compared_in, largest, all_signed, at_largest, has_label, first_branch, case_branch, effect, branch_of, run, branch}
+use Rattle.vod_design.specs.Run.{Branch, index_bits, target_of, written, assigned, in_turn, compared_in, largest, all_signed, at_largest, has_label, first_branch, case_branch, effect, branch_of, run, branch}
 use Rattle.vod_design.specs.Source.{node_unplaced, unplaced, target_unplaced, part_unplaced, layer_unplaced, item_unplaced, statement_unplaced}
 use Rattle.vod_design.proofs.Forgets.{same}
 

@@ -4,7 +4,6 @@ use Rattle.std.specs.List.{list_any, list_all}
 use Rattle.vod_bits.specs.Bit.{Bit, is_1}
 use Rattle.vod_four.specs.Four.{truth_bit}
 use Rattle.vod_design.specs.declared.sized.SizedExpr.{SizedExpr}
-use Rattle.vod_design.specs.declared.sized.Variable.{Variable}
 use Rattle.vod_design.specs.declared.sized.Variable.TheVariants.{Signal, Local}
 use Rattle.vod_design.specs.declared.statement.CaseItem.{CaseItem}
 use Rattle.vod_design.specs.declared.statement.Function.{Function}
@@ -15,13 +14,10 @@ use Rattle.vod_design.specs.declared.statement.Size.{Size}
 use Rattle.vod_design.specs.declared.statement.Statement.{Statement}
 use Rattle.vod_design.specs.declared.statement.Statement.TheOpen.{Statement-F, CaseItem-F}
 use Rattle.vod_design.specs.declared.statement.Statement.TheFolds.{fold-Statement, fold-CaseItem}
+use Rattle.vod_design.specs.declared.statement.Target.{Target}
+use Rattle.vod_design.specs.declared.statement.Target.TheVariants.{Bits, Word}
 use Rattle.vod_design.specs.Values.{Values, Frame, Operand, unknown, bounded, at_size, value_at, select_bits, index_place}
 use Rattle.vod_design.specs.Eval.{Calls, identical_bit, operand_of}
-
--- a place that a part of an assignment writes: bits of a variable from a place up, or a memory word
-pub data Target : Type 0 where
-  Bits : Variable → ℕ → Target
-  Word : ℕ → ℕ → Target
 
 -- the index of a part, a bit that isn't there where it has none
 abbrev pub index_bits : Bit → (SizedExpr → Operand) → PartTarget → List Bit
@@ -44,6 +40,10 @@ unfoldable pub replace_bits : ℕ → List Bit → List Bit → List Bit
 replace_bits low new old =
     if nat_le (low + length new) (length old) then take (length old - (low + length new)) old ++ new ++ drop (length old - low) old else old
 
+-- the place that a part of a left side writes, where its index has its value
+abbrev pub part_target : Bit → (SizedExpr → Operand) → Part → Option Target
+part_target fill value p = target_of p.target (index_bits fill value p.target)
+
 -- what a function's variables are after bits were assigned to a place; it has no others
 abbrev pub written : Bit → Option Target → List Bit → Frame → Frame
 written fill None new frame = frame
@@ -63,13 +63,17 @@ abbrev pub in_turn : List (Frame → Frame) → Frame → Frame
 in_turn [] frame = frame
 in_turn (s ∷ ss) frame = in_turn ss (s frame)
 
--- an item of a `case`: its labels, and what its body does
-pub record Branch : Type 0 where
+-- an item of a `case`: its labels, and what is taken with it
+pub record Choice (B : Type 0) : Type 0 where
   pub labels : List SizedExpr
-  pub body : Frame → Frame
+  pub body : B
+
+-- where that is what its body does
+abbrev pub Branch : Type 0
+Branch = Choice (Frame → Frame)
 
 -- the value and the labels of a `case`
-abbrev pub compared_in : SizedExpr → List Branch → List SizedExpr
+abbrev pub compared_in : {B : Type 0} → SizedExpr → List (Choice B) → List SizedExpr
 compared_in tested items = tested ∷ flat_map (λ item. item.labels) items
 
 -- the largest size of several expressions, and whether all of them are signed
@@ -88,15 +92,24 @@ at_largest es value = at_size (largest es) (all_signed es) value
 abbrev pub has_label : (SizedExpr → List Bit) → List Bit → List SizedExpr → Bool
 has_label value tested labels = list_any (λ label. is_1 (identical_bit tested (value label))) labels
 
--- the first item with such a label, or else the last branch
-abbrev pub first_branch : (SizedExpr → List Bit) → List Bit → List Branch → (Frame → Frame) → Frame → Frame
+-- what is taken with the first item with such a label, or else with the last branch
+abbrev pub first_branch : {B : Type 0} → (SizedExpr → List Bit) → List Bit → List (Choice B) → B → B
 first_branch value tested [] otherwise = otherwise
 first_branch value tested (item ∷ more) otherwise = if has_label value tested item.labels then item.body else first_branch value tested more otherwise
 
--- the branch that a `case` takes, where its expressions have these values
-abbrev pub case_branch : (SizedExpr → Operand) → SizedExpr → List Branch → (Frame → Frame) → Frame → Frame
+-- what a `case` takes, where its expressions have these values
+abbrev pub case_branch : {B : Type 0} → (SizedExpr → Operand) → SizedExpr → List (Choice B) → B → B
 case_branch value tested items otherwise =
     first_branch (λ e. at_largest (compared_in tested items) (value e).bits) (at_largest (compared_in tested items) (value tested).bits) items otherwise
+
+-- the items of a `case`, each with its number, from n up
+abbrev pub numbered : ℕ → List CaseItem → List (Choice (Option ℕ))
+numbered n [] = []
+numbered n (item ∷ more) = record { labels = item.labels; body = Some n } ∷ numbered (suc n) more
+
+-- the item that a `case` takes, by its number: none where that is the last branch
+abbrev pub item_taken : (SizedExpr → Operand) → SizedExpr → List CaseItem → Option ℕ
+item_taken value tested items = case_branch value tested (numbered 0 items) None
 
 -- what a statement does to a function's variables. The indices of a left side are evaluated before its parts are written
 abbrev pub effect : Bit → (Frame → SizedExpr → Operand) → Statement-F (Frame → Frame) Branch → Frame → Frame
@@ -144,3 +157,7 @@ call_below fill functions (suc k) n arguments =
 -- signals and memory words, and those of the variables of the function that it stands in
 unfoldable pub eval : Bit → List Function → Values → Frame → SizedExpr → List Bit
 eval fill functions values frame e = (operand_of fill (call_below fill functions (length functions)) values frame e).bits
+
+-- an expression as an operand that stands in no function
+abbrev pub operand_outside : Bit → List Function → Values → SizedExpr → Operand
+operand_outside fill functions values e = operand_of fill (call_below fill functions (length functions)) values [] e

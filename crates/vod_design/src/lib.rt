@@ -23,7 +23,7 @@ pub use sized::{
     SizedKind, UnaryOp, Variable, value_forgets_places, value_hangs_on_reads,
 };
 pub use statement::{
-    Body, CaseItem, Function, Locals, Part, PartTarget, Place, Places, Size, Statement,
+    Body, CaseItem, Function, Locals, Part, PartTarget, Place, Places, Size, Statement, Target,
     run_forgets_places,
 };
 pub use vector::{Class, Move, Moves, Vector, one_more_is_lawful};

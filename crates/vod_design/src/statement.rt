@@ -9,6 +9,7 @@ ghost use Rattle.vod_design.specs.Source.{statement_unplaced};
 use crate::{SizedExpr, Variable};
 use sqlite_items::{Boxed, Items};
 use std::marker::Model;
+use vod_bits::Word;
 
 /// What a part of a left side writes.
 #[derive(Drop)]
@@ -19,6 +20,14 @@ pub enum PartTarget {
     Index(Variable, u16, SizedExpr),
     /// A word of a memory by a value: the memory's number, its least index, and the index.
     Word(u32, u16, SizedExpr),
+}
+
+/// A place that a part of an assignment writes: bits of a variable from a place up, counted from its lowest bit, or a word of a
+/// memory by its number and the word's place from the least index up.
+#[derive(Clone, Copy)]
+pub enum Target {
+    Bits(Variable, Word),
+    Word(u32, Word),
 }
 
 /// A part of a left side, with the place of its first token, as a byte offset in the source. It takes `width` bits of the value

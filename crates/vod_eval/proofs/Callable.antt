@@ -1,5 +1,5 @@
 -- Calls of functions by number.
-use Rattle.std.proofs.Common.{◌≡◌, ℕ, zero, suc, ◌+◌, ◌*◌, ◌≤◌, ◌<◌, nat_lt, Bool, true, false, cond, ◌==◌, ◌≢◌, List, [], ◌∷◌, map, length, take, slice_get, get_or, Option, Some, None, refl, ap, sym, ◌∙◌, arith, inl, inr}
+use Rattle.std.proofs.Common.{◌≡◌, ℕ, zero, suc, ◌+◌, ◌*◌, ◌≤◌, ◌<◌, nat_lt, Bool, true, false, cond, ◌==◌, ◌≢◌, List, [], ◌∷◌, map, length, take, slice_get, get_or, Option, Some, None, option_and_then, refl, ap, sym, ◌∙◌, arith, inl, inr}
 use Rattle.std.proofs.Math.Nat.{mul-le-mul_right}
 use Rattle.std.proofs.lemmas.List.{get_or_read}
 use Rattle.std.proofs.lemmas.Bool.{lt-ltb, le-ltb, ltb-true}
@@ -53,6 +53,10 @@ pub most_get : {A : Type 0} (f : A → ℕ) (xs : List A) (n : ℕ) (x : A) → 
 most_get f [] n x h = absurd (cc)
 most_get f (y ∷ xs) zero x h = let e : y ≡ x = cc in let same : f y ≡ f x = ap f e in omega arith
 most_get f (y ∷ xs) (suc n) x h = let more : f x ≤ most (map f xs) = most_get f xs n x h in omega arith
+
+pub most_found : {A : Type 0} (f : A → ℕ) (xs : List A) (n : Option ℕ) (x : A) → option_and_then (slice_get xs) n ≡ Some x → f x ≤ most (map f xs)
+most_found f xs None x h = absurd (cc)
+most_found f xs (Some n) x h = most_get f xs n x h
 
 -- the measure falls at a call
 pub below_base : (n k b m : ℕ) → n < k → m < b → n * b + m < k * b

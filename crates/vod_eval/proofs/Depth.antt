@@ -12,7 +12,7 @@ use Rattle.vod_design.specs.declared.statement.Statement.{Statement}
 use Rattle.vod_design.specs.declared.statement.Statement.TheOpen.{Statement-F, CaseItem-F}
 use Rattle.vod_design.specs.declared.statement.Statement.TheFolds.{fold-Statement, fold-CaseItem}
 use Rattle.vod_eval.specs.Room.{most}
-use Rattle.vod_eval.specs.declared.eval.Scene.{Scene}
+use Rattle.vod_eval.specs.declared.scene.Scene.{Scene}
 
 abbrev pub kind_depth : SizedKind-F ℕ ℕ → ℕ
 kind_depth (SizedKind-F.Number _) = 0
@@ -51,6 +51,9 @@ effect_depth (Statement-F.If test taken other) = suc (max (depth test) (max take
 effect_depth (Statement-F.Case tested items otherwise) = suc (max (depth tested) (max (most items) otherwise))
 effect_depth (Statement-F.Begin statements) = suc (most statements)
 effect_depth Statement-F.Empty = 0
+
+abbrev pub labels_depth : CaseItem → ℕ
+labels_depth item = most (map depth item.labels)
 
 abbrev pub item_step : CaseItem-F ℕ ℕ → ℕ
 item_step item = max (most (map depth item.labels)) item.body

@@ -1,5 +1,5 @@
 -- What the folds over expressions and statements give where one layer stands open.
-use Rattle.std.proofs.Common.{◌≡◌, ℕ, suc, max, Bool, cond, List, [], ◌∷◌, map, flat_map, refl, ap, sym, ◌∙◌}
+use Rattle.std.proofs.Common.{◌≡◌, ℕ, suc, ◌≤◌, max, Bool, List, [], ◌∷◌, map, slice_get, Option, option_and_then, ap, sym, ◌∙◌, arith}
 use Rattle.vod_bits.specs.Bit.{Bit}
 use Rattle.vod_design.specs.declared.sized.SizedExpr.{SizedExpr}
 use Rattle.vod_design.specs.declared.sized.SizedKind.{SizedKind}
@@ -15,9 +15,10 @@ use Rattle.vod_design.specs.declared.statement.Statement.{Statement}
 use Rattle.vod_design.specs.declared.statement.Statement.TheOpen.{Statement-F}
 use Rattle.vod_design.specs.declared.statement.Statement.TheFolds.{fold-Statement, map-Statement, fold-roll-Statement, fold_out-CaseItem}
 use Rattle.vod_design.specs.declared.statement.Statement.TheViews.{roll-Statement}
-use Rattle.vod_design.specs.Run.{Branch, has_label, first_branch, effect, branch_of, run, branch}
-use Rattle.vod_eval.specs.Room.{kind_room, expr_room, most, effect_room, item_room, statement_room, item_room_of}
-use Rattle.vod_eval.proofs.Depth.{kind_depth, depth, effect_depth, item_step, statement_depth, item_depth}
+use Rattle.vod_design.specs.Run.{Branch, item_taken, effect, branch_of, run, branch}
+use Rattle.vod_eval.specs.Room.{kind_room, expr_room, most, effect_room, item_room, statement_room, labels_room, item_room_of}
+use Rattle.vod_eval.specs.CaseLaws.{body_of, case_by_number}
+use Rattle.vod_eval.proofs.Depth.{kind_depth, depth, effect_depth, item_step, statement_depth, labels_depth, item_depth}
 
 -- one layer of an expression's kind
 abbrev pub Layer : Type 0
@@ -84,17 +85,27 @@ pub branch_at : (fill : Bit) (calls : Calls) (values : Values) (item : CaseItem)
 unfolding run branch
 branch_at fill calls values item = fold_out-CaseItem (Frame → Frame) Branch (effect fill (operand_of fill calls values)) branch_of item
 
--- the first branch, or what the rest gives
-pub first_at : (fill : Bit) (value : SizedExpr → List Bit) (tested : List Bit) (calls : Calls) (values : Values) (item : CaseItem) (next : List Branch) (otherwise : Frame → Frame) (b : Bool)
-    → has_label value tested item.labels ≡ b → first_branch value tested (branch fill calls values item ∷ next) otherwise ≡ cond b (run fill calls values item.body) (first_branch value tested next otherwise)
-first_at fill value tested calls values item next otherwise b h =
-    ap (λ x. first_branch value tested (x ∷ next) otherwise) (branch_at fill calls values item)
-    ∙ ap (λ t. cond t (run fill calls values item.body) (first_branch value tested next otherwise)) h
+-- a `case` does what its item of the number that it takes does
+pub case_at : (fill : Bit) (calls : Calls) (values : Values) (frame : Frame) (s : Statement) (tested : SizedExpr) (items : List CaseItem) (otherwise : Statement) (number : Option ℕ)
+    → s ≡ roll-Statement (Statement-F.Case tested items otherwise) → number ≡ item_taken (operand_of fill calls values frame) tested items
+    → run fill calls values s frame ≡ body_of (branch fill calls values) (option_and_then (slice_get items) number) (run fill calls values otherwise) frame
+case_at fill calls values frame s tested items otherwise number is taken =
+    let value : SizedExpr → Operand = operand_of fill calls values frame in
+    run_at fill calls values frame s (Statement-F.Case tested items otherwise) is
+    ∙ ap (λ (f : Frame → Frame). f frame) (case_by_number value tested (branch fill calls values) (λ item. ap (λ (b : Branch). b.labels) (branch_at fill calls values item)) items (run fill calls values otherwise))
+    ∙ ap (λ n. body_of (branch fill calls values) (option_and_then (slice_get items) n) (run fill calls values otherwise) frame) (sym taken)
 
--- the labels of the items of a `case`
-pub labels_back : (fill : Bit) (calls : Calls) (values : Values) (items : List CaseItem) → flat_map (λ item. item.labels) items ≡ flat_map (λ item. item.labels) (map (branch fill calls values) items)
-labels_back fill calls values [] = refl
-labels_back fill calls values (item ∷ more) =
-    let here : item.labels ≡ (branch fill calls values item).labels = sym (ap (λ (b : Branch). b.labels) (branch_at fill calls values item)) in
-    let rest : flat_map (λ item. item.labels) more ≡ flat_map (λ item. item.labels) (map (branch fill calls values) more) = labels_back fill calls values more in
-    cc
+-- the labels of an item are as deep as the item at most, and take its room at most
+pub labels_depth_below : (items : List CaseItem) → most (map labels_depth items) ≤ most (map item_depth items)
+labels_depth_below [] = omega arith
+labels_depth_below (item ∷ more) =
+    let here = item_depth_at item in
+    let rest : most (map labels_depth more) ≤ most (map item_depth more) = labels_depth_below more in
+    omega (arith, here)
+
+pub labels_room_below : (calls : ℕ → ℕ) (items : List CaseItem) → most (map (labels_room calls) items) ≤ most (map (item_room_of calls) items)
+labels_room_below calls [] = omega arith
+labels_room_below calls (item ∷ more) =
+    let here = item_room_at calls item in
+    let rest : most (map (labels_room calls) more) ≤ most (map (item_room_of calls) more) = labels_room_below calls more in
+    omega (arith, here)

@@ -8,3 +8,4 @@ pub mod RoomTable
 mod Gates
 mod Commons
 pub mod ReadLists
+mod Bodies

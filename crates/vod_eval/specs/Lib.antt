@@ -3,3 +3,4 @@ pub mod Pieces
 pub mod Room
 pub mod Scenes
 pub mod Sizes
+pub mod CaseLaws

@@ -5,6 +5,7 @@ use Rattle.vod_design.specs.declared.sized.SizedKind.TheOpen.{SizedKind-F}
 use Rattle.vod_design.specs.declared.sized.SizedKind.TheFolds.{fold-SizedExpr}
 use Rattle.vod_design.specs.declared.statement.CaseItem.{CaseItem}
 use Rattle.vod_design.specs.declared.statement.Function.{Function}
+use Rattle.vod_design.specs.declared.statement.Part.{Part}
 use Rattle.vod_design.specs.declared.statement.PartTarget.{PartTarget}
 use Rattle.vod_design.specs.declared.statement.PartTarget.TheVariants as part
 use Rattle.vod_design.specs.declared.statement.Statement.{Statement}
@@ -77,9 +78,20 @@ abbrev pub call_room : List Function → ℕ → ℕ → ℕ
 call_room functions zero n = 0
 call_room functions (suc k) n = if n == k then function_room (call_room functions k) (slice_get functions k) else call_room functions k n
 
+-- the room of the labels of an item of a `case`
+abbrev pub labels_room : (ℕ → ℕ) → CaseItem → ℕ
+labels_room calls item = most (map (expr_room calls) item.labels)
+
 -- the room of an expression of a design with these functions
 unfoldable pub room_of : List Function → SizedExpr → ℕ
 room_of functions e = expr_room (call_room functions (length functions)) e
+
+-- that of the labels of the items of a `case`, and of the indices of a left side that are evaluated one by one
+unfoldable pub items_room : List Function → List CaseItem → ℕ
+items_room functions items = most (map (labels_room (call_room functions (length functions))) items)
+
+unfoldable pub parts_room : List Function → List Part → ℕ
+parts_room functions parts = most (map (λ p. index_room (call_room functions (length functions)) p.target) parts)
 
 -- the room of a call of each function by a table of them
 abbrev pub room_in : List ℕ → ℕ → ℕ

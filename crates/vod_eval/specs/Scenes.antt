@@ -10,7 +10,7 @@ use Rattle.vod_design.specs.declared.statement.Statement.{Statement}
 use Rattle.vod_design.specs.Values.{Values, Frame, Operand, unknown, bounded, at_size}
 use Rattle.vod_design.specs.Eval.{Calls, operand_of}
 use Rattle.vod_design.specs.Run.{Branch, nothing, run, branch, index_bits, call_below}
-use Rattle.vod_eval.specs.declared.eval.Scene.{Scene}
+use Rattle.vod_eval.specs.declared.scene.Scene.{Scene}
 use Rattle.vod_eval.specs.Room.{index_room, call_room}
 
 -- what an expression is evaluated over: what stands for a bit that isn't there, the functions, of which those before the limit may

@@ -1,26 +1,26 @@
 //! Expressions, calls and statements.
-ghost use Rattle.std.specs.Prelude.{◌≡◌, ◌+◌, ◌≤◌, map, flat_map, take, drop, length, [], ◌∷◌, ◌++◌, MatchOption, Some, None, option_map, slice_set};
+ghost use Rattle.std.specs.Prelude.{◌≡◌, ◌+◌, ◌≤◌, map, flat_map, take, drop, length, [], ◌∷◌, ◌++◌, MatchOption, Some, None, option_map, option_and_then, slice_get, slice_set};
 ghost use Rattle.vod_bits.specs.Bit.{is_1};
 ghost use Rattle.vod_four.specs.Four.{truth_bit, choose_bits};
-ghost use Rattle.vod_design.specs.Values.{at_size, bounded, value_at, variable_bits, named_bits, word_or_x, word_at};
-ghost use Rattle.vod_design.specs.Run.{eval, in_turn, entered, frame_of, first_branch, has_label, assigned, written, target_of, at_index, replace_bits};
-ghost use Rattle.vod_design.specs.Run.Target.{Bits};
+ghost use Rattle.vod_design.specs.Values.{at_size, value_at};
+ghost use Rattle.vod_design.specs.Run.{eval, in_turn, entered, frame_of, first_branch, has_label, numbered, item_taken, assigned, written, target_of, replace_bits};
 ghost use Rattle.vod_design.specs.Eval.{fold_inputs};
 ghost use Rattle.vod_eval.specs.Pieces.{bits_of_option, lowest, gate_start, gate_table};
-ghost use Rattle.vod_eval.specs.Room.{room_of, expr_room, statement_room, item_room_of, most, staged};
-ghost use Rattle.vod_eval.specs.Scenes.{seen, callable_in, operand, with_signs, input_bits, unknown_of, run_in, branch_in, index_in, part_room, rooms, calls_of, scene_values, operand_in, bits_in, input_in, bits_at};
+ghost use Rattle.vod_eval.specs.Room.{room_of, expr_room, statement_room, labels_room, most, staged};
+ghost use Rattle.vod_eval.specs.Scenes.{seen, operand, with_signs, input_bits, unknown_of, run_in, index_in, part_room, rooms, calls_of, operand_in, bits_in, input_in, bits_at};
 
 use crate::bits::{
     at_size, bit_at_place, filled, index_place, joined, repeated, replaced, select, unknown,
 };
 use crate::labels::case_size;
 use crate::ops;
-use crate::table::{Tables, value_at};
+use crate::scene::{Scene, callable, named, word};
+use crate::table::Tables;
 use sqlite_items::at;
 use vod_bits::Word;
 use vod_design::{
-    CaseItem, Function, GateOp, Memory, Named, Part, PartTarget, Size, SizedExpr, SizedKind,
-    Statement, Variable,
+    CaseItem, Function, GateOp, Part, PartTarget, Size, SizedExpr, SizedKind, Statement, Target,
+    Variable,
 };
 use vod_value::Value;
 
@@ -45,76 +45,9 @@ pub fn value_of<V: Value, T: Tables<V>>(
     value(&scene, &[], expr, room)
 }
 
-// What an expression is evaluated over: the functions, of which those before the limit may be called, and the tables. In a
-// function's body no signal and no memory word has a value.
-#[derive(Drop)]
-pub struct Scene<'v, T> {
-    functions: &'v [Function],
-    limit: usize,
-    tables: &'v T,
-    in_function: bool,
-}
-
-// The value of a signal.
-fn signal<V: Value, T: Tables<V>>(scene: &Scene<'_, T>, n: u32) -> V
-    ensures { V.bits result ≡ (scene_values (seen V.fill T.values scene.now)).signal n }
-{
-    if scene.in_function {
-        V::nothing()
-    } else {
-        scene.tables.signal(n)
-    }
-}
-
-// The value of a variable.
-fn variable<V: Value, T: Tables<V>>(scene: &Scene<'_, T>, frame: &[V], variable: Variable) -> V
-    ensures { V.bits result ≡ variable_bits V.fill (scene_values (seen V.fill T.values scene.now)) (map V.bits frame.now) variable }
-{
-    match variable {
-        Variable::Signal(n) => signal(scene, n),
-        Variable::Local(n) => value_at(frame, n as usize),
-    }
-}
-
-// The value of a name.
-fn named<V: Value, T: Tables<V>>(scene: &Scene<'_, T>, frame: &[V], name: Named) -> V
-    ensures { V.bits result ≡ named_bits V.fill (scene_values (seen V.fill T.values scene.now)) (map V.bits frame.now) name }
-{
-    match name {
-        Named::Variable(x) => variable(scene, frame, x),
-        Named::Constant(bits) => V::of(bits),
-    }
-}
-
-// A word of a memory at a place, where there is one.
-fn word_at<V: Value, T: Tables<V>>(
-    scene: &Scene<'_, T>,
-    memory: u32,
-    place: Option<Word>,
-) -> Option<V>
-    ensures { option_map V.bits result ≡ word_at (scene_values (seen V.fill T.values scene.now)) memory place }
-{
-    let place = place?;
-    if scene.in_function {
-        None
-    } else {
-        scene.tables.word(memory, place)
-    }
-}
-
-// A memory word, none of its bits there where there is no such word.
-fn word<V: Value, T: Tables<V>>(scene: &Scene<'_, T>, memory: Memory, place: Option<Word>) -> V
-    ensures { V.bits result ≡ word_or_x V.fill (bounded memory.width) (word_at (scene_values (seen V.fill T.values scene.now)) memory.number place) }
-{
-    match word_at(scene, memory.number, place) {
-        Some(value) => value,
-        None => unknown(memory.width),
-    }
-}
-
 // The value of an expression at its size and sign.
 #[cycle(eval)]
-fn value<V: Value, T: Tables<V>>(
+pub fn value<V: Value, T: Tables<V>>(
     scene: &Scene<'_, T>,
     frame: &[V],
     e: &SizedExpr,
@@ -303,17 +236,6 @@ fn call<V: Value, T: Tables<V>>(
     variables[result]
 }
 
-// The function of a number, where it may be called.
-fn callable<'v, T>(scene: &Scene<'v, T>, n: usize) -> Option<&'v Function>
-    ensures { MatchOption result (callable_in scene.now n ≡ None) (λ f. callable_in scene.now n ≡ Some f.now) }
-{
-    if n < scene.limit {
-        scene.functions.get(n)
-    } else {
-        None
-    }
-}
-
 // Puts the values of expressions into the front of the room.
 #[cycle(eval)]
 fn values<V: Value, T: Tables<V>>(
@@ -401,9 +323,11 @@ fn run<V: Value, T: Tables<V>>(
         }
         Statement::Case(tested, items, otherwise) => {
             let items = items.as_slice();
-            let size = case_size(tested, items);
-            let tested = value(scene, frame, tested, room);
-            case(scene, size, tested, items, otherwise.get(), frame, room);
+            let taken = item_taken(scene, frame, tested, items, room);
+            match item_at(items, taken) {
+                Some(item) => run(scene, &item.body, frame, room),
+                None => run(scene, otherwise.get(), frame, room),
+            }
         }
         Statement::Begin(statements) => run_all(scene, statements.as_slice(), frame, room),
         Statement::Empty => {}
@@ -427,7 +351,7 @@ fn run_all<V: Value, T: Tables<V>>(
 }
 
 // Whether a value counts as true.
-fn is_true<V: Value>(value: V) -> bool
+pub fn is_true<V: Value>(value: V) -> bool
     ensures { result ≡ is_1 (truth_bit (V.bits value)) }
 {
     match value.truth() {
@@ -436,28 +360,53 @@ fn is_true<V: Value>(value: V) -> bool
     }
 }
 
-// Runs the first item of a `case` with a label that is equal to the value at the size of the `case`, or else the last branch.
+// The item that a `case` takes, by its number: none where that is the last branch.
 #[cycle(eval)]
-fn case<V: Value, T: Tables<V>>(
+pub fn item_taken<V: Value, T: Tables<V>>(
+    scene: &Scene<'_, T>,
+    frame: &[V],
+    tested: &SizedExpr,
+    items: &[CaseItem],
+    room: &mut [V],
+) -> Option<usize>
+    requires tested { expr_room (rooms scene.now) tested.now ≤ length room.old }
+    requires items { most (map (labels_room (rooms scene.now)) items.now) ≤ length room.old }
+    ensures { result ≡ item_taken (operand_in (seen V.fill T.values scene.now) (map V.bits frame.now)) tested.now items.now }
+{
+    let size = case_size(tested, items);
+    let tested = value(scene, frame, tested, room);
+    first_item(scene, size, tested, items, frame, room)
+}
+
+// The first item with a label that is equal to the value at the size of the `case`, by its number.
+#[cycle(eval)]
+fn first_item<V: Value, T: Tables<V>>(
     scene: &Scene<'_, T>,
     size: Size,
     tested: V,
     items: &[CaseItem],
-    otherwise: &Statement,
-    frame: &mut [V],
+    frame: &[V],
     room: &mut [V],
-)
-    requires items { most (map (item_room_of (rooms scene.now)) items.now) ≤ length room.old }
-    requires otherwise { statement_room (rooms scene.now) otherwise.now ≤ length room.old }
-    ensures { map V.bits frame.new ≡ first_branch (bits_at (seen V.fill T.values scene.now) (map V.bits frame.old) size) (at_size size.width size.signed (V.bits tested)) (map (branch_in (seen V.fill T.values scene.now)) items.now) (run_in (seen V.fill T.values scene.now) otherwise.now) (map V.bits frame.old) }
+) -> Option<usize>
+    requires { most (map (labels_room (rooms scene.now)) items.now) ≤ length room.old }
+    ensures { result ≡ first_branch (bits_at (seen V.fill T.values scene.now) (map V.bits frame.now) size) (at_size size.width size.signed (V.bits tested)) (numbered 0 items.now) None }
 {
-    for item in items {
+    for (i, item) in items.iter().enumerate() {
         if has_label(scene, size, tested, item.labels.as_slice(), frame, room) {
-            run(scene, &item.body, frame, room);
-            return;
+            return Some(i);
         }
     }
-    run(scene, otherwise, frame, room);
+    None
+}
+
+// The item of a number, where there is one.
+fn item_at(items: &[CaseItem], number: Option<usize>) -> Option<&CaseItem>
+    ensures { MatchOption result (option_and_then (slice_get items.now) number ≡ None) (λ item. option_and_then (slice_get items.now) number ≡ Some item.now) }
+{
+    match number {
+        Some(n) => items.get(n),
+        None => None,
+    }
 }
 
 // Whether a label is equal to the value at a size, x and z included.
@@ -500,7 +449,7 @@ fn indices<V: Value, T: Tables<V>>(
 
 // The index of a part of a left side, x where it has none.
 #[cycle(eval)]
-fn part_index<V: Value, T: Tables<V>>(
+pub fn part_index<V: Value, T: Tables<V>>(
     scene: &Scene<'_, T>,
     frame: &[V],
     part: &Part,
@@ -522,28 +471,31 @@ fn assign<V: Value>(parts: &[Part], value: V, frame: &mut [V], indices: &[V])
     ensures { map V.bits frame.new ≡ assigned V.fill parts.now (map V.bits indices.now) (V.bits value) (map V.bits frame.old) }
 {
     for (i, part) in parts.iter().enumerate() {
-        write(part, indices[i], select(value, part.low, part.width), frame);
+        let bits = select(value, part.low, part.width);
+        write(target_of(part, indices[i]), bits, frame);
     }
 }
 
-// Writes bits to the place of a part: a function has no places but its own variables.
-fn write<V: Value>(part: &Part, index: V, bits: V, frame: &mut [V])
-    ensures { map V.bits frame.new ≡ written V.fill (target_of part.now.target (V.bits index)) (V.bits bits) (map V.bits frame.old) }
+// The place that a part writes, where its index has this value.
+pub fn target_of<V: Value>(part: &Part, index: V) -> Option<Target>
+    ensures { result ≡ target_of part.now.target (V.bits index) }
 {
     match &part.target {
-        PartTarget::Bits(variable, low) => put(frame, *variable, Some(Word::from(*low)), bits),
+        PartTarget::Bits(variable, low) => Some(Target::Bits(*variable, Word::from(*low))),
         PartTarget::Index(variable, least, _) => {
-            put(frame, *variable, index_place(*least, index), bits)
+            Some(Target::Bits(*variable, index_place(*least, index)?))
         }
-        PartTarget::Word(_, _, _) => {}
+        PartTarget::Word(memory, least, _) => {
+            Some(Target::Word(*memory, index_place(*least, index)?))
+        }
     }
 }
 
-// Replaces bits of a variable from a place up, where there is one.
-fn put<V: Value>(frame: &mut [V], variable: Variable, low: Option<Word>, bits: V)
-    ensures { map V.bits frame.new ≡ written V.fill (at_index (Bits variable) low) (V.bits bits) (map V.bits frame.old) }
+// Writes bits to a place, where there is one: a function has no places but those of its own variables.
+fn write<V: Value>(target: Option<Target>, bits: V, frame: &mut [V])
+    ensures { map V.bits frame.new ≡ written V.fill target (V.bits bits) (map V.bits frame.old) }
 {
-    if let (Variable::Local(n), Some(low)) = (variable, low) {
+    if let Some(Target::Bits(Variable::Local(n), low)) = target {
         replace(frame, n as usize, low, bits);
     }
 }

@@ -5,18 +5,19 @@ use Rattle.std.proofs.lemmas.List.{take_all, take-map, length-map}
 use Rattle.vod_design.specs.declared.sized.SizedExpr.{SizedExpr}
 use Rattle.vod_design.specs.declared.sized.SizedKind.TheOpen.{SizedKind-F}
 use Rattle.vod_design.specs.declared.sized.SizedKind.TheVariants.{rolls-Index, rolls-WordIndex, rolls-Unary, rolls-Binary, rolls-Comparison, rolls-LogicalNot, rolls-Logical, rolls-Reduction, rolls-Shift, rolls-Conditional, rolls-Concat, rolls-Replicate, rolls-Call, rolls-Gate, rolls-Number, rolls-Name, rolls-Select, rolls-Word}
-use Rattle.vod_eval.specs.Room.{expr_room, statement_room, item_room_of}
+use Rattle.vod_eval.specs.Room.{expr_room, statement_room, labels_room}
 use Rattle.vod_eval.specs.Pieces.{lowest, gate_start, gate_table, gate_output}
-use Rattle.vod_eval.specs.Sizes.{common, labels_of}
+use Rattle.vod_bits.specs.Bit.{Bit}
+use Rattle.vod_eval.specs.CaseLaws.{labels_of_numbered, body_of}
+use Rattle.vod_eval.specs.Sizes.{common}
 use Rattle.vod_eval.proofs.Gates.{one_bit, fold_none, fold_more, gate_is}
 use Rattle.vod_bits.specs.Value.{upper_bit}
 use Rattle.vod_eval.specs.Scenes.{seen, rooms, calls_of, scene_values, operand_in, bits_in, bits_at, input_in, index_in, part_room, branch_in}
-use Rattle.vod_eval.proofs.Depth.{depth, part_depth, statement_depth, item_depth}
+use Rattle.vod_eval.proofs.Depth.{depth, part_depth, statement_depth, labels_depth}
 use Rattle.vod_eval.proofs.Layers.{depth_at, room_at, value_at_kind}
 use Rattle.vod_eval.proofs.Kept.{most_item, staged_item, staged_long}
-use Rattle.vod_design.specs.declared.statement.CaseItem.{CaseItem}
-use Rattle.vod_design.specs.declared.statement.Statement.{Statement}
-use Rattle.std.proofs.Common.{List, ◌++◌, ◌∷◌, [], ◌*◌, true, false, cond, length-append, Some, get_or, option_map}
+use Rattle.vod_design.specs.declared.statement.Size.{Size}
+use Rattle.std.proofs.Common.{List, ◌++◌, ◌∷◌, [], ◌*◌, true, false, cond, length-append, Some, None, suc, add-one, get_or, slice_get, option_map, option_and_then}
 use Rattle.vod_four.specs.Four.{truth_bit, choose_bits}
 use Rattle.std.specs.List.{list_any}
 use Rattle.vod_bits.specs.Bit.{is_1}
@@ -24,13 +25,14 @@ use Rattle.vod_design.specs.declared.statement.Statement.TheOpen.{Statement-F}
 use Rattle.vod_design.specs.declared.statement.Statement.TheVariants.{rolls-Assign, rolls-If, rolls-Case, rolls-Begin, rolls-Empty}
 use Rattle.vod_design.specs.Values.{Frame, Operand, at_size, bounded, word_or_x, word_at}
 use Rattle.vod_design.specs.Eval.{identical_bit, repeated, fold_inputs, gate_bit}
-use Rattle.vod_design.specs.Run.{result_of, call_below, first_branch, has_label, assigned, in_turn, frame_of, run, nothing, index_bits}
+use Rattle.vod_design.specs.Run.{Branch, result_of, call_below, first_branch, has_label, numbered, item_taken, assigned, in_turn, frame_of, run, nothing, index_bits}
 use Rattle.vod_eval.specs.Room.{call_room, function_room}
 use Rattle.vod_eval.specs.Scenes.{run_in, with_signs}
 use Rattle.vod_eval.proofs.Callable.{calls_at, rooms_at, found_below, most_get, below_base, signs_back, operand_back, assigned_take, call_value}
 use Rattle.vod_eval.proofs.Cuts.{at_size_length, filled_size, lowest_size, lowest_again}
 use Rattle.vod_eval.proofs.Depth.{bodies_depth}
-use Rattle.vod_eval.proofs.Layers.{statement_depth_at, statement_room_at, run_at, item_depth_at, item_room_at, first_at, labels_back}
+use Rattle.vod_eval.proofs.Layers.{statement_depth_at, statement_room_at, run_at, branch_at, case_at, labels_depth_below, labels_room_below}
+use Rattle.vod_eval.proofs.Bodies.{body_depth_below, body_room_below}
 use Rattle.vod_eval.proofs.Kept.{flat_map_map, flat_take, drop_item, drop_past, any_past, any_here, kept_more}
 use Rattle.vod_eval.proofs.eval.+eval.Goals as goal
 
@@ -82,36 +84,6 @@ call-returns g t c =
     = c.run.ensures ∙ ap (λ s. run fill (call_below fill functions n) (nothing fill) s (map b variables)) c.statement.ensures in
     call_value fill functions c.args.scene.now.limit n args f (map b c.run.new.frame) (map b variables) index (b last) c.in-Some.ensures entry done count is
     (omega (arith, length-map c.run.new.frame b, c.split_at_mut-variables.ensures.front_len))
-
-pub case-has_label-requires : goal.case-has_label-requires
-case-has_label-requires g t c =
-    let d = most_item item_depth c.args.items.now c.loop-item.item-index c.item-item.result c.item-item.is (omega arith) in
-    let dd = item_depth_at c.item-item.result in
-    let r = most_item (item_room_of (rooms c.args.scene.now)) c.args.items.now c.loop-item.item-index c.item-item.result c.item-item.is (omega arith) in
-    let rr = item_room_at (rooms c.args.scene.now) c.item-item.result in λ κs b. (grind (arith, d, dd), (b.0, (b.1, grind (arith, r, rr))))
-
-pub case-run-requires : goal.case-run-requires
-case-run-requires g t c =
-    let d = most_item item_depth c.args.items.now c.loop-item.item-index c.item-item.result c.item-item.is (omega arith) in
-    let dd = item_depth_at c.item-item.result in
-    let r = most_item (item_room_of (rooms c.args.scene.now)) c.args.items.now c.loop-item.item-index c.item-item.result c.item-item.is (omega arith) in
-    let rr = item_room_at (rooms c.args.scene.now) c.item-item.result in λ κs b. (grind (arith, d, dd), (b.0, (b.1, grind (arith, r, rr))))
-
-pub case-returns-then-has_label : goal.case-returns-then-has_label
-case-returns-then-has_label g t c =
-    let next = map (branch_in (seen g.V.Value.fill g.T.Tables.values c.args.scene.now)) (drop (c.loop-item.item-index + 1) c.args.items.now) in
-    let split = drop_item c.args.items.now c.loop-item.item-index c.item-item.result c.item-item.is (omega arith) in
-    let has = sym c.has_label.ensures ∙ c.if-has_label.true in
-    let labels = sym (ap (has_label (bits_at (seen g.V.Value.fill g.T.Tables.values c.args.scene.now) (map g.V.Value.bits c.loop-item.frame) c.args.size) (at_size c.args.size.width c.args.size.signed (g.V.Value.bits c.args.tested))) c.as_slice.ensures) ∙ has in
-    let here = first_at g.V.Value.fill (bits_at (seen g.V.Value.fill g.T.Tables.values c.args.scene.now) (map g.V.Value.bits c.loop-item.frame) c.args.size) (at_size c.args.size.width c.args.size.signed (g.V.Value.bits c.args.tested)) (calls_of (seen g.V.Value.fill g.T.Tables.values c.args.scene.now)) (scene_values (seen g.V.Value.fill g.T.Tables.values c.args.scene.now)) c.item-item.result next (run_in (seen g.V.Value.fill g.T.Tables.values c.args.scene.now) c.args.otherwise.now) true labels in
-    let whole = ap (λ xs. first_branch (bits_at (seen g.V.Value.fill g.T.Tables.values c.args.scene.now) (map g.V.Value.bits c.loop-item.frame) c.args.size) (at_size c.args.size.width c.args.size.signed (g.V.Value.bits c.args.tested)) (map (branch_in (seen g.V.Value.fill g.T.Tables.values c.args.scene.now)) xs) (run_in (seen g.V.Value.fill g.T.Tables.values c.args.scene.now) c.args.otherwise.now) (map g.V.Value.bits c.loop-item.frame)) split ∙ ap (λ (f : Frame → Frame). f (map g.V.Value.bits c.loop-item.frame)) here in
-    rw (← c.loop-item.invariant.same) (c.run.ensures ∙ sym whole ∙ c.loop-item.invariant.left)
-
-pub case-returns : goal.case-returns
-case-returns g t c =
-    let none = drop_past c.loop-item.item-index c.args.items.now (omega arith) in
-    let left = sym (ap (λ xs. first_branch (bits_at (seen g.V.Value.fill g.T.Tables.values c.args.scene.now) (map g.V.Value.bits c.loop-item.frame) c.args.size) (at_size c.args.size.width c.args.size.signed (g.V.Value.bits c.args.tested)) (map (branch_in (seen g.V.Value.fill g.T.Tables.values c.args.scene.now)) xs) (run_in (seen g.V.Value.fill g.T.Tables.values c.args.scene.now) c.args.otherwise.now) (map g.V.Value.bits c.loop-item.frame)) none) ∙ c.loop-item.invariant.left in
-    rw (← c.loop-item.invariant.same) (c.run-2.ensures ∙ left)
 
 pub concat-value-requires : goal.concat-value-requires
 concat-value-requires g t c =
@@ -184,18 +156,6 @@ run-run-requires-else-is_true g t c =
     let r = statement_room_at (rooms c.args.scene.now) c.args.statement.now (Statement-F.If c.in-If.test c.in-If.taken c.in-If.other) (c.in-If.is ∙ sym (rolls-If c.in-If.test c.in-If.taken c.in-If.other)) in
     λ κs b. (grind (arith, d), (b.0, (b.1, grind (arith, r))))
 
-pub run-value-tested-requires : goal.run-value-tested-requires
-run-value-tested-requires g t c =
-    let d = statement_depth_at c.args.statement.now (Statement-F.Case c.in-Case.tested c.in-Case.items c.in-Case.otherwise) (c.in-Case.is ∙ sym (rolls-Case c.in-Case.tested c.in-Case.items c.in-Case.otherwise)) in
-    let r = statement_room_at (rooms c.args.scene.now) c.args.statement.now (Statement-F.Case c.in-Case.tested c.in-Case.items c.in-Case.otherwise) (c.in-Case.is ∙ sym (rolls-Case c.in-Case.tested c.in-Case.items c.in-Case.otherwise)) in
-    λ κs b. (grind (arith, d), (b.0, (b.1, grind (arith, r))))
-
-pub run-case-requires : goal.run-case-requires
-run-case-requires g t c =
-    let d = statement_depth_at c.args.statement.now (Statement-F.Case c.in-Case.tested c.in-Case.items c.in-Case.otherwise) (c.in-Case.is ∙ sym (rolls-Case c.in-Case.tested c.in-Case.items c.in-Case.otherwise)) in
-    let r = statement_room_at (rooms c.args.scene.now) c.args.statement.now (Statement-F.Case c.in-Case.tested c.in-Case.items c.in-Case.otherwise) (c.in-Case.is ∙ sym (rolls-Case c.in-Case.tested c.in-Case.items c.in-Case.otherwise)) in
-    λ κs b. (grind (arith, d), (b.0, (b.1, (grind (arith, r), grind (arith, r)))))
-
 pub run-run_all-requires : goal.run-run_all-requires
 run-run_all-requires g t c =
     let d = statement_depth_at c.args.statement.now (Statement-F.Begin c.in-Begin.statements) (c.in-Begin.is ∙ sym (rolls-Begin c.in-Begin.statements)) in
@@ -222,24 +182,6 @@ run-returns-else-is_true g t c =
     let test = sym (c.is_true.ensures ∙ ap (λ b. is_1 (truth_bit b)) c.value-test.ensures) ∙ c.if-is_true.false in
     c.run-else-is_true.ensures ∙ ap (λ s. run_in (seen g.V.Value.fill g.T.Tables.values c.args.scene.now) s (map g.V.Value.bits c.args.frame.now)) c.get-else-is_true.ensures
     ∙ sym (run_at g.V.Value.fill (calls_of (seen g.V.Value.fill g.T.Tables.values c.args.scene.now)) (scene_values (seen g.V.Value.fill g.T.Tables.values c.args.scene.now)) (map g.V.Value.bits c.args.frame.now) c.args.statement.now (Statement-F.If c.in-If.test c.in-If.taken c.in-If.other) (c.in-If.is ∙ sym (rolls-If c.in-If.test c.in-If.taken c.in-If.other)) ∙ ap (λ b. (cond b (run_in (seen g.V.Value.fill g.T.Tables.values c.args.scene.now) c.in-If.taken) (run_in (seen g.V.Value.fill g.T.Tables.values c.args.scene.now) c.in-If.other)) (map g.V.Value.bits c.args.frame.now)) test)
-
-pub run-returns-in-Case : goal.run-returns-in-Case
-run-returns-in-Case g t c =
-    let tested = c.in-Case.tested in
-    let items = c.in-Case.items in
-    let other = run_in (seen g.V.Value.fill g.T.Tables.values c.args.scene.now) c.in-Case.otherwise in
-    let frame = map g.V.Value.bits c.args.frame.now in
-    let scene = seen g.V.Value.fill g.T.Tables.values c.args.scene.now in
-    let size : c.case_size-size.result ≡ common (tested ∷ labels_of items) = c.case_size-size.ensures ∙ ap (λ is. common (tested ∷ labels_of is)) c.as_slice-items.ensures in
-    let labels : labels_of items ≡ flat_map (λ item. item.labels) (map (branch_in scene) items) = labels_back g.V.Value.fill (calls_of scene) (scene_values scene) items in
-    let size_is = c.case_size-size.result in
-    let chosen = λ (is : List CaseItem) (s : Statement). first_branch (bits_at scene frame size_is) (at_size size_is.width size_is.signed (g.V.Value.bits c.value-tested.result)) (map (branch_in scene) is) (run_in scene s) frame in
-    let labelled : map g.V.Value.bits c.case.new.frame ≡ chosen items c.get-in-Case.result.now = c.case.ensures ∙ ap (λ is. chosen is c.get-in-Case.result.now) c.as_slice-items.ensures in
-    let taken : map g.V.Value.bits c.case.new.frame ≡ chosen items c.in-Case.otherwise = labelled ∙ ap (chosen items) c.get-in-Case.ensures in
-    taken ∙ ap (λ v. first_branch (bits_at scene frame c.case_size-size.result) (at_size c.case_size-size.result.width c.case_size-size.result.signed v) (map (branch_in scene) items) other frame) c.value-tested.ensures
-    ∙ ap (λ s. first_branch (bits_at scene frame s) (bits_at scene frame s tested) (map (branch_in scene) items) other frame) size
-    ∙ ap (λ ls. first_branch (bits_at scene frame (common (tested ∷ ls))) (bits_at scene frame (common (tested ∷ ls)) tested) (map (branch_in scene) items) other frame) labels
-    ∙ sym (run_at g.V.Value.fill (calls_of scene) (scene_values scene) frame c.args.statement.now (Statement-F.Case tested items c.in-Case.otherwise) (c.in-Case.is ∙ sym (rolls-Case tested items c.in-Case.otherwise)))
 
 pub run-returns-in-Begin : goal.run-returns-in-Begin
 run-returns-in-Begin g t c =
@@ -583,16 +525,6 @@ pub indices-loop-i-preserved : goal.indices-loop-i-preserved
 indices-loop-i-preserved g t c =
     kept_more g.V.Value.bits (index_in (seen g.V.Value.fill g.T.Tables.values c.args.scene.now) (map g.V.Value.bits c.args.frame.now)) c.args.parts.now c.loop-i.room _ c.loop-i.i c.index-parts-i.result c.part_index.result c.index-parts-i.is (omega arith) (omega (arith, staged_long (part_room c.args.scene.now) c.args.parts.now)) (omega (arith, staged_long (part_room c.args.scene.now) c.args.parts.now, length-append (take c.loop-i.i c.loop-i.room) c.part_index.new.room, length-take c.loop-i.i c.loop-i.room)) c.loop-i.invariant c.part_index.ensures
 
-pub case-loop-item-preserved : goal.case-loop-item-preserved
-case-loop-item-preserved g t c =
-    let next = map (branch_in (seen g.V.Value.fill g.T.Tables.values c.args.scene.now)) (drop (c.loop-item.item-index + 1) c.args.items.now) in
-    let split = drop_item c.args.items.now c.loop-item.item-index c.item-item.result c.item-item.is (omega arith) in
-    let has = sym c.has_label.ensures ∙ c.if-has_label.false in
-    let labels = sym (ap (has_label (bits_at (seen g.V.Value.fill g.T.Tables.values c.args.scene.now) (map g.V.Value.bits c.loop-item.frame) c.args.size) (at_size c.args.size.width c.args.size.signed (g.V.Value.bits c.args.tested))) c.as_slice.ensures) ∙ has in
-    let here = first_at g.V.Value.fill (bits_at (seen g.V.Value.fill g.T.Tables.values c.args.scene.now) (map g.V.Value.bits c.loop-item.frame) c.args.size) (at_size c.args.size.width c.args.size.signed (g.V.Value.bits c.args.tested)) (calls_of (seen g.V.Value.fill g.T.Tables.values c.args.scene.now)) (scene_values (seen g.V.Value.fill g.T.Tables.values c.args.scene.now)) c.item-item.result next (run_in (seen g.V.Value.fill g.T.Tables.values c.args.scene.now) c.args.otherwise.now) false labels in
-    let whole = ap (λ xs. first_branch (bits_at (seen g.V.Value.fill g.T.Tables.values c.args.scene.now) (map g.V.Value.bits c.loop-item.frame) c.args.size) (at_size c.args.size.width c.args.size.signed (g.V.Value.bits c.args.tested)) (map (branch_in (seen g.V.Value.fill g.T.Tables.values c.args.scene.now)) xs) (run_in (seen g.V.Value.fill g.T.Tables.values c.args.scene.now) c.args.otherwise.now) (map g.V.Value.bits c.loop-item.frame)) split ∙ ap (λ (f : Frame → Frame). f (map g.V.Value.bits c.loop-item.frame)) here in
-    record { same = c.loop-item.invariant.same; left = sym whole ∙ c.loop-item.invariant.left }
-
 pub part_index-returns-in-Bits : goal.part_index-returns-in-Bits
 unfolding index_in
 part_index-returns-in-Bits g t c = c.nothing.ensures ∙ sym (ap (index_bits g.V.Value.fill (operand_in (seen g.V.Value.fill g.T.Tables.values c.args.scene.now) (map g.V.Value.bits c.args.frame.now))) c.in-Bits.is)
@@ -604,3 +536,95 @@ part_index-returns-in-Index g t c = c.value.ensures ∙ sym (ap (index_bits g.V.
 pub part_index-returns-in-Word : goal.part_index-returns-in-Word
 unfolding index_in
 part_index-returns-in-Word g t c = c.value-in-Word.ensures ∙ sym (ap (index_bits g.V.Value.fill (operand_in (seen g.V.Value.fill g.T.Tables.values c.args.scene.now) (map g.V.Value.bits c.args.frame.now))) c.in-Word.is)
+
+pub item_taken-returns : goal.item_taken-returns
+item_taken-returns g t c =
+    let scene = seen g.V.Value.fill g.T.Tables.values c.args.scene.now in
+    let frame = map g.V.Value.bits c.args.frame.now in
+    let tested = c.args.tested.now in
+    let items = c.args.items.now in
+    let taken = λ (s : Size) (v : List Bit). first_branch (bits_at scene frame s) (at_size s.width s.signed v) (numbered 0 items) None in
+    c.first_item.ensures ∙ ap (taken c.case_size-size.result) c.value-tested.ensures ∙ ap (λ s. taken s (bits_in scene frame tested)) c.case_size-size.ensures
+    ∙ ap (λ ls. taken (common (tested ∷ ls)) (bits_in scene frame tested)) (sym (labels_of_numbered 0 items))
+
+pub first_item-has_label-requires : goal.first_item-has_label-requires
+first_item-has_label-requires g t c =
+    let d = most_item labels_depth c.args.items.now c.loop-i.i c.index-items-i.result c.index-items-i.is (omega arith) in
+    let r = most_item (labels_room (rooms c.args.scene.now)) c.args.items.now c.loop-i.i c.index-items-i.result c.index-items-i.is (omega arith) in
+    λ κs b. (grind (arith, d), (b.0, (b.1, grind (arith, r))))
+
+pub first_item-returns-then-has_label : goal.first_item-returns-then-has_label
+first_item-returns-then-has_label g t c =
+    let value = bits_at (seen g.V.Value.fill g.T.Tables.values c.args.scene.now) (map g.V.Value.bits c.args.frame.now) c.args.size in
+    let tested = at_size c.args.size.width c.args.size.signed (g.V.Value.bits c.args.tested) in
+    let i = c.loop-i.i in
+    let item = c.index-items-i.result in
+    let has : has_label value tested item.labels ≡ true = sym (ap (has_label value tested) c.as_slice.ensures) ∙ sym c.has_label.ensures ∙ c.if-has_label.true in
+    let split = drop_item c.args.items.now i item c.index-items-i.is (omega arith) in
+    let here = ap (λ b. cond b (Some i) (first_branch value tested (numbered (suc i) (drop (i + 1) c.args.items.now)) None)) has in
+    sym (ap (λ xs. first_branch value tested (numbered i xs) None) split ∙ here) ∙ c.loop-i.invariant
+
+pub first_item-loop-i-preserved : goal.first_item-loop-i-preserved
+first_item-loop-i-preserved g t c =
+    let value = bits_at (seen g.V.Value.fill g.T.Tables.values c.args.scene.now) (map g.V.Value.bits c.args.frame.now) c.args.size in
+    let tested = at_size c.args.size.width c.args.size.signed (g.V.Value.bits c.args.tested) in
+    let i = c.loop-i.i in
+    let item = c.index-items-i.result in
+    let has : has_label value tested item.labels ≡ false = sym (ap (has_label value tested) c.as_slice.ensures) ∙ sym c.has_label.ensures ∙ c.if-has_label.false in
+    let split = drop_item c.args.items.now i item c.index-items-i.is (omega arith) in
+    let here = ap (λ b. cond b (Some i) (first_branch value tested (numbered (suc i) (drop (i + 1) c.args.items.now)) None)) has in
+    ap (λ k. first_branch value tested (numbered k (drop (i + 1) c.args.items.now)) None) (add-one i)
+    ∙ sym (ap (λ xs. first_branch value tested (numbered i xs) None) split ∙ here) ∙ c.loop-i.invariant
+
+pub first_item-returns : goal.first_item-returns
+first_item-returns g t c =
+    let value = bits_at (seen g.V.Value.fill g.T.Tables.values c.args.scene.now) (map g.V.Value.bits c.args.frame.now) c.args.size in
+    let tested = at_size c.args.size.width c.args.size.signed (g.V.Value.bits c.args.tested) in
+    sym (ap (λ xs. first_branch value tested (numbered c.loop-i.i xs) None) (drop_past c.loop-i.i c.args.items.now (omega arith))) ∙ c.loop-i.invariant
+
+pub run-item_taken-taken-requires : goal.run-item_taken-taken-requires
+run-item_taken-taken-requires g t c =
+    let d = statement_depth_at c.args.statement.now (Statement-F.Case c.in-Case.tested c.in-Case.items c.in-Case.otherwise) (c.in-Case.is ∙ sym (rolls-Case c.in-Case.tested c.in-Case.items c.in-Case.otherwise)) in
+    let r = statement_room_at (rooms c.args.scene.now) c.args.statement.now (Statement-F.Case c.in-Case.tested c.in-Case.items c.in-Case.otherwise) (c.in-Case.is ∙ sym (rolls-Case c.in-Case.tested c.in-Case.items c.in-Case.otherwise)) in
+    let dl = labels_depth_below c.in-Case.items in
+    let rl = labels_room_below (rooms c.args.scene.now) c.in-Case.items in
+    λ κs b. (grind (arith, d, dl), (b.0, (b.1, (grind (arith, r), grind (arith, r, rl)))))
+
+pub run-run-requires-in-Some : goal.run-run-requires-in-Some
+run-run-requires-in-Some g t c =
+    let is = c.in-Case.is ∙ sym (rolls-Case c.in-Case.tested c.in-Case.items c.in-Case.otherwise) in
+    let number = c.item_taken-taken.result in
+    let found = sym (ap (λ xs. option_and_then (slice_get xs) number) c.as_slice-items.ensures) ∙ c.in-Some.ensures in
+    let d = body_depth_below c.args.statement.now c.in-Case.tested c.in-Case.items c.in-Case.otherwise number c.in-Some.item.now is found in
+    let r = body_room_below (rooms c.args.scene.now) c.args.statement.now c.in-Case.tested c.in-Case.items c.in-Case.otherwise number c.in-Some.item.now is found in
+    λ κs b. (grind (arith, d), (b.0, (b.1, grind (arith, r))))
+
+pub run-run-requires-in-None : goal.run-run-requires-in-None
+run-run-requires-in-None g t c =
+    let d = statement_depth_at c.args.statement.now (Statement-F.Case c.in-Case.tested c.in-Case.items c.in-Case.otherwise) (c.in-Case.is ∙ sym (rolls-Case c.in-Case.tested c.in-Case.items c.in-Case.otherwise)) in
+    let r = statement_room_at (rooms c.args.scene.now) c.args.statement.now (Statement-F.Case c.in-Case.tested c.in-Case.items c.in-Case.otherwise) (c.in-Case.is ∙ sym (rolls-Case c.in-Case.tested c.in-Case.items c.in-Case.otherwise)) in
+    λ κs b. (grind (arith, d), (b.0, (b.1, grind (arith, r))))
+
+pub run-returns-in-Some : goal.run-returns-in-Some
+run-returns-in-Some g t c =
+    let scene = seen g.V.Value.fill g.T.Tables.values c.args.scene.now in
+    let frame = map g.V.Value.bits c.args.frame.now in
+    let items = c.in-Case.items in
+    let number = c.item_taken-taken.result in
+    let taken = c.item_taken-taken.ensures ∙ ap (item_taken (operand_in scene frame) c.in-Case.tested) c.as_slice-items.ensures in
+    let whole = case_at scene.fill (calls_of scene) (scene_values scene) frame c.args.statement.now c.in-Case.tested items c.in-Case.otherwise number (c.in-Case.is ∙ sym (rolls-Case c.in-Case.tested items c.in-Case.otherwise)) taken in
+    let item = c.in-Some.item.now in
+    let found : option_and_then (slice_get items) number ≡ Some item = sym (ap (λ xs. option_and_then (slice_get xs) number) c.as_slice-items.ensures) ∙ c.in-Some.ensures in
+    let body : (branch_in scene item).body ≡ run_in scene item.body = ap (λ (b : Branch). b.body) (branch_at scene.fill (calls_of scene) (scene_values scene) item) in
+    c.run-in-Some.ensures ∙ sym (whole ∙ ap (λ o. body_of (branch_in scene) o (run_in scene c.in-Case.otherwise) frame) found ∙ ap (λ (f : Frame → Frame). f frame) body)
+
+pub run-returns-in-None : goal.run-returns-in-None
+run-returns-in-None g t c =
+    let scene = seen g.V.Value.fill g.T.Tables.values c.args.scene.now in
+    let frame = map g.V.Value.bits c.args.frame.now in
+    let items = c.in-Case.items in
+    let number = c.item_taken-taken.result in
+    let taken = c.item_taken-taken.ensures ∙ ap (item_taken (operand_in scene frame) c.in-Case.tested) c.as_slice-items.ensures in
+    let whole = case_at scene.fill (calls_of scene) (scene_values scene) frame c.args.statement.now c.in-Case.tested items c.in-Case.otherwise number (c.in-Case.is ∙ sym (rolls-Case c.in-Case.tested items c.in-Case.otherwise)) taken in
+    let found : option_and_then (slice_get items) number ≡ None = sym (ap (λ xs. option_and_then (slice_get xs) number) c.as_slice-items.ensures) ∙ c.in-None.ensures in
+    c.run-in-None.ensures ∙ ap (λ s. run_in scene s frame) c.get-in-None.ensures ∙ sym (whole ∙ ap (λ o. body_of (branch_in scene) o (run_in scene c.in-Case.otherwise) frame) found)

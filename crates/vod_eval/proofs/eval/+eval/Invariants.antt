@@ -1,11 +1,11 @@
-use Rattle.std.proofs.Common.{◌≡◌, ◌+◌, ◌*◌, max, ◌∷◌, [], map, flat_map, take, drop, option_map}
+use Rattle.std.proofs.Common.{◌≡◌, ◌+◌, ◌*◌, max, ◌∷◌, [], map, flat_map, take, drop, option_map, None}
 use Rattle.vod_eval.specs.Pieces.{bits_of_option, lowest, gate_start, gate_table}
 use Rattle.vod_design.specs.Values.{at_size}
 use Rattle.vod_design.specs.Eval.{fold_inputs}
-use Rattle.vod_design.specs.Run.{in_turn, has_label, first_branch}
-use Rattle.vod_eval.specs.Scenes.{seen, run_in, bits_in, bits_at, input_in, index_in, branch_in}
+use Rattle.vod_design.specs.Run.{in_turn, has_label, first_branch, numbered}
+use Rattle.vod_eval.specs.Scenes.{seen, run_in, bits_in, bits_at, input_in, index_in}
 use Rattle.vod_eval.specs.Room.{most}
-use Rattle.vod_eval.proofs.Depth.{depth, part_depth, statement_depth, item_depth, base}
+use Rattle.vod_eval.proofs.Depth.{depth, part_depth, statement_depth, labels_depth, base}
 use Rattle.vod_eval.proofs.eval.+eval.Given as goal
 
 abbrev pub decreases-value : goal.decreases-value
@@ -35,8 +35,11 @@ decreases-run g l = base l.scene.now + 5 * statement_depth l.statement.now + 2
 abbrev pub decreases-run_all : goal.decreases-run_all
 decreases-run_all g l = base l.scene.now + 5 * most (map statement_depth l.statements.now) + 4
 
-abbrev pub decreases-case : goal.decreases-case
-decreases-case g l = base l.scene.now + 5 * max (most (map item_depth l.items.now)) (statement_depth l.otherwise.now) + 5
+abbrev pub decreases-item_taken : goal.decreases-item_taken
+decreases-item_taken g l = base l.scene.now + 5 * max (depth l.tested.now) (most (map labels_depth l.items.now)) + 6
+
+abbrev pub decreases-first_item : goal.decreases-first_item
+decreases-first_item g l = base l.scene.now + 5 * most (map labels_depth l.items.now) + 5
 
 abbrev pub decreases-has_label : goal.decreases-has_label
 decreases-has_label g l = base l.scene.now + 5 * most (map depth l.labels.now) + 4
@@ -68,10 +71,9 @@ invariant-has_label-loop-label g l =
     has_label (bits_at (seen g.V.Value.fill g.T.Tables.values l.scene) (map g.V.Value.bits l.frame) l.size) (at_size l.size.width l.size.signed (g.V.Value.bits l.tested)) (drop l.label-index l.labels)
     ≡ has_label (bits_at (seen g.V.Value.fill g.T.Tables.values l.scene) (map g.V.Value.bits l.frame) l.size) (at_size l.size.width l.size.signed (g.V.Value.bits l.tested)) l.labels
 
-abbrev pub invariant-case-loop-item : goal.invariant-case-loop-item
-invariant-case-loop-item g l = record {
-  same : l.frame ≡ l.fn.frame;
-  left :
-      first_branch (bits_at (seen g.V.Value.fill g.T.Tables.values l.scene) (map g.V.Value.bits l.frame) l.size) (at_size l.size.width l.size.signed (g.V.Value.bits l.tested)) (map (branch_in (seen g.V.Value.fill g.T.Tables.values l.scene)) (drop l.item-index l.items)) (run_in (seen g.V.Value.fill g.T.Tables.values l.scene) l.otherwise) (map g.V.Value.bits l.frame)
-      ≡ first_branch (bits_at (seen g.V.Value.fill g.T.Tables.values l.scene) (map g.V.Value.bits l.frame) l.size) (at_size l.size.width l.size.signed (g.V.Value.bits l.tested)) (map (branch_in (seen g.V.Value.fill g.T.Tables.values l.scene)) l.items) (run_in (seen g.V.Value.fill g.T.Tables.values l.scene) l.otherwise) (map g.V.Value.bits l.frame);
-}
+abbrev pub invariant-first_item-loop-i : goal.invariant-first_item-loop-i
+invariant-first_item-loop-i g l =
+    let scene = seen g.V.Value.fill g.T.Tables.values l.scene in
+    let frame = map g.V.Value.bits l.frame in
+    let tested = at_size l.size.width l.size.signed (g.V.Value.bits l.tested) in
+    first_branch (bits_at scene frame l.size) tested (numbered l.i (drop l.i l.items)) None ≡ first_branch (bits_at scene frame l.size) tested (numbered 0 l.items) None

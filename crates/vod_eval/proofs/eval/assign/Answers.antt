@@ -17,7 +17,7 @@ loop-i-preserved g c =
     let p = c.index-parts-i.result in
     let x = c.index-indices-i.result in
     let step : map b c.write.new.frame ≡ written fill (target_of p.target (b x)) (select_bits fill p.low (bounded p.width) value) frame
-    = c.write.ensures ∙ ap (λ bits. written fill (target_of p.target (b x)) bits frame) c.select.ensures in
+    = c.write.ensures ∙ ap (λ target. written fill target (b c.select-bits.result) frame) c.target_of.ensures ∙ ap (λ bits. written fill (target_of p.target (b x)) bits frame) c.select-bits.ensures in
     let ps : drop i parts ≡ p ∷ drop (i + 1) parts = drop_item parts i p c.index-parts-i.is (omega arith) in
     let xs : drop i (map b indices) ≡ b x ∷ drop (i + 1) (map b indices)
     = drop-map b i indices ∙ ap (map b) (drop_item indices i x c.index-indices-i.is (omega arith)) ∙ ap (λ ys. b x ∷ ys) (sym (drop-map b (i + 1) indices)) in
