@@ -1,0 +1,7 @@
+use Rattle.std.proofs.Common.{◌≡◌, ◌++◌, [], drop, take, replicate, flat_map}
+use Rattle.vod_readers.specs.Collected.{feeds_all}
+use Rattle.vod_readers.specs.Readers.{memories_of}
+use Rattle.vod_readers.proofs.memory_readers.Given as goal
+
+abbrev pub invariant-loop-k : goal.invariant-loop-k
+invariant-loop-k l = feeds_all memories_of l.k l.collected.marks.items l.collected.feeds.items (drop l.k l.drivers) ≡ feeds_all memories_of 0 (replicate l.fn.memories 0) [] l.fn.drivers
