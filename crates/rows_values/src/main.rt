@@ -3,6 +3,7 @@
 #![tactic(auto)]
 
 mod bits;
+mod both;
 mod four;
 mod sized;
 mod text;
@@ -18,10 +19,11 @@ enum Layer {
     Bits,
     Four,
     Sized(sized::Call),
+    Both(both::Call),
     Thin,
 }
 
-const LAYERS: [(&str, Layer); 13] = [
+const LAYERS: [(&str, Layer); 21] = [
     ("decimal", Layer::Text(text::Call::Decimal)),
     ("hexadecimal", Layer::Text(text::Call::Hexadecimal)),
     ("based", Layer::Text(text::Call::Based)),
@@ -34,6 +36,14 @@ const LAYERS: [(&str, Layer); 13] = [
     ("gate", Layer::Sized(sized::Call::Gate)),
     ("wide_gate", Layer::Sized(sized::Call::WideGate)),
     ("case", Layer::Sized(sized::Call::Case)),
+    ("choose", Layer::Both(both::Call::Choose)),
+    ("mixed", Layer::Both(both::Call::Mixed)),
+    ("select", Layer::Both(both::Call::Select)),
+    ("part", Layer::Both(both::Call::Part)),
+    ("if", Layer::Both(both::Call::If)),
+    ("item", Layer::Both(both::Call::Item)),
+    ("target", Layer::Both(both::Call::Target)),
+    ("target_word", Layer::Both(both::Call::TargetWord)),
     ("thin", Layer::Thin),
 ];
 
@@ -47,6 +57,7 @@ fn answer(rt: &(impl Print + AllocGlobal), words: &[&str]) -> io::Result<()> {
         Some(Layer::Bits) => bits::answer(rt, rest),
         Some(Layer::Four) => four::answer(rt, rest),
         Some(Layer::Sized(call)) => sized::answer(rt, call, rest),
+        Some(Layer::Both(call)) => both::answer(rt, call, rest),
         Some(Layer::Thin) => thin::answer(rt, rest),
         None => rt.print(" unknown row"),
     }

@@ -43,9 +43,9 @@ const GATES: [(&str, GateOp); 8] = [
 ];
 
 /// Lets go of a part of a tree.
-fn let_go<T: Drop>(_value: T) {}
+pub fn let_go<T: Drop>(_value: T) {}
 
-fn sized(width: u8, signed: bool, kind: SizedKind) -> SizedExpr {
+pub fn sized(width: u8, signed: bool, kind: SizedKind) -> SizedExpr {
     SizedExpr {
         place: 0,
         width,
@@ -55,7 +55,7 @@ fn sized(width: u8, signed: bool, kind: SizedKind) -> SizedExpr {
 }
 
 /// The signal of a number, of so many bits.
-fn signal(number: u32, width: u8) -> SizedExpr {
+pub fn signal(number: u32, width: u8) -> SizedExpr {
     sized(
         width,
         false,
@@ -103,10 +103,7 @@ fn print_value(
 ) -> io::Result<()> {
     let tables = Lists { signals, memories };
     let mut room = room(rt.alloc(), functions, e)?;
-    print(
-        rt,
-        Some(value_of(functions, &tables, e, &mut room)),
-    )
+    print(rt, Some(value_of(functions, &tables, e, &mut room)))
 }
 
 /// The same of an expression that nothing else needs.
@@ -317,7 +314,7 @@ fn item(alloc: Global, given: u8, words: &str) -> Result<CaseItem, AllocError> {
 }
 
 /// The items of a `case`.
-fn items(alloc: Global, words: &[&str]) -> Result<Items<CaseItem>, AllocError> {
+pub fn items(alloc: Global, words: &[&str]) -> Result<Items<CaseItem>, AllocError> {
     let mut items = Items::new(alloc);
     for (n, word) in (1u8..).zip(words) {
         match pushed(alloc, &mut items, n, word) {
