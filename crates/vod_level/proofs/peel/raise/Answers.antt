@@ -1,0 +1,2 @@
+use Rattle.vod_level.proofs.Steps.{raise_step}
+use Rattle.vod_level.proofs.peel.raise.Goals as goal

@@ -1,0 +1,6 @@
+pub mod Bits
+pub mod Feeds
+pub mod Order
+pub mod Cycle
+pub mod Peel
+pub mod Lists
