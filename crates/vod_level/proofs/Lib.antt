@@ -5,3 +5,7 @@ pub mod Ranking
 pub mod Ordering
 pub mod Writing
 pub mod Feeding
+pub mod Reaching
+pub mod Searching
+pub mod Walking
+pub mod Circling

@@ -74,7 +74,7 @@ raised_at : (b : Bool) (level old : ℕ) → (old ≤ raised b level old) × (ra
 raised_at true level old = (omega arith, omega arith)
 raised_at false level old = (omega arith, omega arith)
 
-take_front : (xs ys : List ℕ) (i : ℕ) → i ≤ length xs → take (length xs) ys ≡ xs → take i ys ≡ take i xs
+pub take_front : (xs ys : List ℕ) (i : ℕ) → i ≤ length xs → take (length xs) ys ≡ xs → take i ys ≡ take i xs
 take_front xs ys zero h e = refl
 take_front [] ys (suc i) h e = absurd (omega arith)
 take_front (x ∷ xs) [] (suc i) h e = absurd (let q : [] ≡ x ∷ xs = e in cc)

@@ -3,4 +3,5 @@ pub mod Feeds
 pub mod Order
 pub mod Cycle
 pub mod Peel
+pub mod Steps
 pub mod Lists

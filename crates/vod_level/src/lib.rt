@@ -1,6 +1,7 @@
 //! The order of drivers: each behind all that feed it, by levels; or the shortest cycle of the least driver that feeds itself.
 #![tactic(auto)]
 
+mod cycle;
 mod edges;
 mod peel;
 mod ranks;
@@ -12,10 +13,11 @@ ghost use Rattle.vod_level.specs.Order.{IsOrder};
 ghost use Rattle.vod_level.specs.Cycle.{IsCycle, IsCause};
 ghost use Rattle.vod_level.specs.Lists.{has_feed};
 
+use crate::cycle::least_cycle;
 use crate::edges::edges;
 use crate::peel::peel;
 use crate::ranks::ranked;
-use crate::types::{Order, OrderFault};
+use crate::types::{Drivers, Order, OrderFault};
 use std::alloc::Global;
 use vod_bits::WIDTH;
 use vod_design::Driver;
@@ -53,7 +55,8 @@ fn of_feeds(alloc: Global, count: u32, feeds: &[Feed]) -> Result<Order, OrderFau
         let ranks = ranked(alloc, peeled.levels.as_slice())?;
         return Ok(Order::new(ranks));
     }
-    Err(OrderFault::Memory)
+    let cycle = least_cycle(alloc, count, feeds, &peeled)?;
+    Err(OrderFault::Cycle(Drivers::new(cycle)))
 }
 
 // Whether nothing is left to any driver.
