@@ -1,13 +1,13 @@
 -- Cycles, and the shortest and least of them.
-use Rattle.std.proofs.Common.{◌≡◌, ◌≢◌, ℕ, zero, suc, ◌+◌, ◌-◌, ◌<◌, ◌≤◌, ◌==◌, ◌⊎◌, Bool, true, false, List, [], ◌∷◌, ◌++◌, length, take, get_or, All, refl, sym, subst, ap, ◌∙◌, arith, inl, inr, zero-add, append_assoc}
+use Rattle.std.proofs.Common.{◌≡◌, ◌≢◌, ℕ, zero, suc, ◌+◌, ◌<◌, ◌≤◌, Bool, true, false, List, [], ◌∷◌, ◌++◌, length, get_or, All, refl, sym, subst, ap, ◌∙◌, arith, inl, inr}
 use Rattle.std.proofs.lemmas.List.Elements.{All-nil, All-cons}
-use Rattle.std.proofs.lemmas.Bool.{both_ways, cases_Bool, cases_lt, cases_eq, cases_order, false_from_ne_true}
+use Rattle.std.proofs.lemmas.Bool.{cases_Bool, cases_lt}
 use Rattle.vod_fanout.specs.declared.Feed.{Feed}
 use Rattle.vod_level.specs.Cycle.{Chain, IsCycle, IsAtMost, IsLeastCycle, first}
 use Rattle.vod_level.specs.Lists.{has, has_feed}
 use Rattle.vod_level.specs.Peel.{absent, IsPeeled}
 use Rattle.vod_level.specs.Steps.{turned_feeds, IsSteps, IsWalk, IsRound, IsFrom}
-use Rattle.vod_level.proofs.Counts.{has_cases, absent_new, absent_nil}
+use Rattle.vod_level.proofs.Counts.{has_cases, absent_new}
 use Rattle.vod_level.proofs.Taking.{get_or_past, feed_source}
 use Rattle.vod_level.proofs.Walking.{has_turned}
 
@@ -115,11 +115,11 @@ back fs n levels left s (suc fuel) p seen e h new r =
     let less = absent_new n seen p (stuck_below left p n s.left_size h) new in
     let q = s.stuck p h in
     let here : Seen (has_feed fs) q.0 (seen ++ p ∷ []) = record {
-        reach = λ x i. elim (has_cases seen p x i) [
-            | inl old ↦ (let c = r.reach x old in (p ∷ c.0, (q.1, c.1)))
-            | inr same ↦ (let P : ℕ → Type 0 = λ k. (ds : List ℕ) × Chain (has_feed fs) q.0 ds k in subst P same ([], q.1))
-          ];
-      } in
+      reach = λ x i. elim (has_cases seen p x i) [
+        | inl old ↦ (let c = r.reach x old in (p ∷ c.0, (q.1, c.1)))
+        | inr same ↦ (let P : ℕ → Type 0 = λ k. (ds : List ℕ) × Chain (has_feed fs) q.0 ds k in subst P same ([], q.1))
+      ];
+    } in
     elim (cases_Bool (has (seen ++ p ∷ []) q.0)) [
       | inl again ↦ (let c = here.reach q.0 again in (q.0, c.0, c.1))
       | inr fresh ↦ back fs n levels left s fuel q.0 (seen ++ p ∷ []) (omega arith) q.2 fresh here

@@ -1,9 +1,7 @@
 -- Numbers in a list, how often, and how many aren't; and feeds that wait.
-use Rattle.std.proofs.Common.{◌≡◌, ◌≢◌, ℕ, zero, suc, ◌+◌, ◌<◌, ◌≤◌, ◌==◌, Bool, true, false, ◌&&◌, ◌||◌, not, ◌⊎◌, ◌-◌, if◌then◌else◌, List, [], ◌∷◌, ◌++◌, length, take, get_or, refl, sym, ap, ◌∙◌, arith, ne_eqb, eq-eqb, inl, inr, length-append, take-suc, add-one, add-zero, zero-add}
-use Rattle.std.specs.List.{list_any}
+use Rattle.std.proofs.Common.{◌≡◌, ◌≢◌, ℕ, zero, suc, ◌+◌, ◌<◌, ◌≤◌, ◌==◌, Bool, true, false, ◌&&◌, ◌||◌, not, ◌⊎◌, ◌-◌, if◌then◌else◌, List, [], ◌∷◌, ◌++◌, length, take, get_or, refl, sym, ap, ◌∙◌, arith, ne_eqb, eq-eqb, inl, inr, take-suc, add-one, add-zero, zero-add}
 use Rattle.std.proofs.lemmas.List.{take_all}
 use Rattle.std.proofs.lemmas.Bool.{cases_Bool, cases_lt, eqb-true, eqb-false, or_cases, or_right, and_parts, not-true, false_from_ne_true}
-use Rattle.std.proofs.lemmas.List.Folds.{list_any-append}
 use Rattle.vod_fanout.specs.declared.Feed.{Feed}
 use Rattle.vod_fanout.specs.FanOut.{readers_of}
 use Rattle.vod_level.specs.Lists.{has, has_feed, is_feed}
@@ -31,9 +29,9 @@ pub has_front : (xs : List ℕ) (i y : ℕ) → has (take i xs) y ≡ true → h
 has_front xs zero y h = absurd (let e : false ≡ true = h in cc)
 has_front [] (suc i) y h = absurd (let e : false ≡ true = h in cc)
 has_front (x ∷ xs) (suc i) y h = elim (or_cases (x == y) (has (take i xs) y) h) [
-    | inl a ↦ rw a refl
-    | inr b ↦ (let e = has_front xs i y b in rw e (elim (x == y) as (λ b. (b || true) ≡ true) [ true ↦ refl | false ↦ refl ]))
-  ]
+  | inl a ↦ rw a refl
+  | inr b ↦ (let e = has_front xs i y b in rw e (elim (x == y) as (λ b. (b || true) ≡ true) [ true ↦ refl | false ↦ refl ]))
+]
 
 pub has_at : (xs : List ℕ) (i d : ℕ) → i < length xs → has xs (get_or xs i d) ≡ true
 has_at [] i d h = absurd (omega arith)
@@ -102,9 +100,9 @@ absent_push n xs x =
     elim (cases_Bool (has xs x)) [
       | inl old ↦ (let e = absent_same n (xs ++ x ∷ []) xs (has_old xs x old) in omega arith)
       | inr new ↦ elim (cases_lt x n) [
-          | inl less ↦ (let e = absent_new n xs x less new in omega arith)
-          | inr far ↦ (let e = absent_far n xs x far in omega arith)
-        ]
+        | inl less ↦ (let e = absent_new n xs x less new in omega arith)
+        | inr far ↦ (let e = absent_far n xs x far in omega arith)
+      ]
     ]
 
 -- so many numbers of a list leave at least so many absent
@@ -176,7 +174,7 @@ waits_push done p (f ∷ fs) q new =
     let turned : (p == f.source) ≡ (f.source == p) = eqb_turned p f.source in
     let there : has (done ++ p ∷ []) f.source ≡ (has done f.source || (f.source == p)) = has_push done p f.source ∙ ap (λ b. has done f.source || b) turned in
     let held : one_if ((f.reader == q) && not (has (done ++ p ∷ []) f.source)) ≡ one_if ((f.reader == q) && not (has done f.source || (f.source == p))) =
-      ap (λ b. one_if ((f.reader == q) && not b)) there in
+    ap (λ b. one_if ((f.reader == q) && not b)) there in
     let here = times_if (f.source == p) f.reader q (readers_of fs p) in
     omega arith
 

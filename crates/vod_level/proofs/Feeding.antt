@@ -1,22 +1,21 @@
 -- The feeds that are found are those of the bits that drivers write and read.
-use Rattle.std.proofs.Common.{◌≡◌, ℕ, zero, suc, ◌+◌, ◌-◌, ◌*◌, ◌<◌, ◌≤◌, ◌==◌, ◌⊎◌, Bool, true, false, ◌&&◌, ◌||◌, Option, Some, None, List, [], ◌∷◌, ◌++◌, length, get_or, map, All, refl, sym, subst, ap, ◌∙◌, arith, inl, inr, zero-add, add-zero, eq-eqb}
-use Rattle.std.specs.List.{list_any, slice_get, Any}
+use Rattle.std.proofs.Common.{◌≡◌, ℕ, zero, suc, ◌+◌, ◌-◌, ◌*◌, ◌<◌, ◌≤◌, ◌==◌, Bool, true, false, ◌&&◌, Option, Some, None, List, [], ◌∷◌, length, get_or, map, All, refl, sym, subst, ap, ◌∙◌, arith, inl, inr, zero-add, add-zero, eq-eqb}
+use Rattle.std.specs.List.{list_any, slice_get}
 use Rattle.std.proofs.lemmas.List.Elements.{All-nil, All-head, All-tail, All-append, All-cons}
 use Rattle.std.proofs.lemmas.List.Folds.{list_any-append, Any-from_list_any, list_any-from_Any, list_any_at}
-use Rattle.std.proofs.lemmas.Bool.{both_ways, cases_Bool, cases_lt, or_cases, or_left, or_right, and_parts, and_from, eqb-true}
+use Rattle.std.proofs.lemmas.Bool.{cases_lt, or_cases, or_left, or_right, and_parts, and_from, eqb-true}
 use Rattle.vod_bits.specs.declared.TheConstants.{WIDTH}
 use Rattle.vod_design.specs.declared.parts.Driver.{Driver}
 use Rattle.vod_design.specs.declared.statement.Place.{Place}
 use Rattle.vod_design.specs.declared.read.Read.{Read}
 use Rattle.vod_design.specs.Reads.{reads}
 use Rattle.vod_fanout.specs.declared.Feed.{Feed}
-use Rattle.vod_fanout.specs.FanOut.{readers_of, each_from, fan_out}
+use Rattle.vod_fanout.specs.FanOut.{readers_of, fan_out}
 use Rattle.vod_fanout.proofs.Lists.{each_at, each_length}
 use Rattle.vod_level.specs.declared.TheConstants.{SIGNALS}
-use Rattle.vod_level.specs.declared.edges.Span.{Span}
 use Rattle.vod_level.specs.Feeds.{is_read, meets, both_meet, feeds}
 use Rattle.vod_level.specs.Lists.{has, has_feed, is_feed, feed}
-use Rattle.vod_level.specs.Bits.{number_of, written_from, read_span, writes_among, writes_read, feeds_from}
+use Rattle.vod_level.specs.Bits.{number_of, written_from, read_span, writes_read, feeds_from}
 use Rattle.vod_level.proofs.Counts.{has_reader}
 use Rattle.vod_level.proofs.Writing.{same_test, IsInSpan, read_in, in_read, among_some, some_among, target_feed, feed_target}
 
@@ -123,11 +122,14 @@ read_written ds p r all h =
     let at : slice_get ds p ≡ Some w.1 = ap (slice_get ds) (w.2 ∙ zero-add w.0) ∙ w.3 in
     let bits = all_at (λ d. All (λ b. (b.signal < SIGNALS) × (b.bit < WIDTH)) d.target) ds p w.1 at all in
     let lo : s.first ≤ a.0 = a.1 in
-    let hi : a.0 < s.end = omega (arith, a.1, a.2) in
-    (w.1, at, any_more (λ b. (b.signal < SIGNALS) × (b.bit < WIDTH)) (λ v. number_of v == a.0) (λ v. is_read v r) (λ v inside e. (
-      let is : number_of v ≡ a.0 = eqb-true (number_of v) a.0 e in
-      let P : ℕ → Type 0 = λ n. IsInSpan n s in
-      read_in r v inside.1 (subst P (sym is) (lo, hi)))) w.1.target bits w.4)
+    let hi : a.0 < s.end = omega (arith, a.1, a.2) in (
+      w.1,
+      at,
+      any_more (λ b. (b.signal < SIGNALS) × (b.bit < WIDTH)) (λ v. number_of v == a.0) (λ v. is_read v r) (λ v inside e. (
+          let is : number_of v ≡ a.0 = eqb-true (number_of v) a.0 e in
+          let P : ℕ → Type 0 = λ n. IsInSpan n s in
+          read_in r v inside.1 (subst P (sym is) (lo, hi)))) w.1.target bits w.4,
+    )
 
 written_read : (ds : List Driver) (p : ℕ) (r : Read) (d : Driver) → AreBits ds → slice_get ds p ≡ Some d → list_any (λ w. is_read w r) d.target ≡ true → writes_read (fan_out (SIGNALS * WIDTH) (written_from 0 ds)) p r ≡ true
 written_read ds p r d all at h =
@@ -157,9 +159,9 @@ to_feeds ds p q all h =
     let a = Any-from_list_any (writes_read t p) (reads f.1.value) f.4 in
     let d = read_written ds p a.1 all a.4 in
     let met : list_any (λ r. list_any (λ w. is_read w r) d.0.target) (reads f.1.value) ≡ true = any_more (λ r. Unit {0}) (writes_read t p) (λ r. list_any (λ w. is_read w r) d.0.target) (λ r u e. (
-      let w = read_written ds p r all e in
-      let same : w.0 ≡ d.0 = some_same w.0 d.0 (sym w.1 ∙ d.1) in
-      ap (λ k. list_any (λ w. is_read w r) k.target) (sym same) ∙ w.2)) (reads f.1.value) (all_any (reads f.1.value)) f.4 in
+    let w = read_written ds p r all e in
+    let same : w.0 ≡ d.0 = some_same w.0 d.0 (sym w.1 ∙ d.1) in
+    ap (λ k. list_any (λ w. is_read w r) k.target) (sym same) ∙ w.2)) (reads f.1.value) (all_any (reads f.1.value)) f.4 in
     ap (λ o. both_meet o (slice_get ds q)) d.1 ∙ ap (both_meet (Some d.0)) at_q ∙ swapped (λ r w. is_read w r) (reads f.1.value) d.0.target met
 
 both_some : (a b : Option Driver) → both_meet a b ≡ true → (p : Driver) × (q : Driver) × (a ≡ Some p) × (b ≡ Some q) × (meets p q ≡ true)

@@ -1,7 +1,7 @@
 -- Drivers that are reached, one more at a time.
-use Rattle.std.proofs.Common.{◌≡◌, ◌≢◌, ℕ, zero, suc, ◌+◌, ◌-◌, ◌<◌, ◌≤◌, ◌==◌, ◌⊎◌, max, Bool, true, false, ◌&&◌, ◌||◌, if◌then◌else◌, List, [], ◌∷◌, ◌++◌, length, take, get_or, set, All, refl, sym, subst, ap, ◌∙◌, arith, inl, inr, ne_eqb, eq-eqb, length-append, length-set, get_or-set_same, get_or-set_other, zero-add, add-zero}
+use Rattle.std.proofs.Common.{◌≡◌, ◌≢◌, ℕ, zero, suc, ◌+◌, ◌<◌, ◌≤◌, ◌==◌, max, Bool, true, false, ◌||◌, List, [], ◌∷◌, ◌++◌, length, take, get_or, set, refl, sym, subst, ap, ◌∙◌, arith, inl, inr, ne_eqb, eq-eqb, length-append, length-set, get_or-set_same, get_or-set_other}
 use Rattle.std.proofs.lemmas.List.{take-append-le, length-take}
-use Rattle.std.proofs.lemmas.Bool.{both_ways, cases_Bool, cases_lt, cases_eq, or_cases, eqb-true, false_from_ne_true}
+use Rattle.std.proofs.lemmas.Bool.{both_ways, cases_lt, cases_eq, false_from_ne_true}
 use Rattle.vod_level.specs.Lists.{has}
 use Rattle.vod_level.specs.Peel.{absent}
 use Rattle.vod_level.specs.Steps.{reached_in, steps_with, reached_with, IsReached}
@@ -70,9 +70,9 @@ steps_at steps d count q inside =
       | inr other ↦ (
           let there : (d == q) ≡ false = ne_eqb d q (λ r. other (sym r)) in
           let same : get_or (steps_with steps d count) q 0 ≡ get_or steps q 0 = elim (cases_eq (get_or steps d 0) 0) [
-              | inl e ↦ ap (λ l. get_or l q 0) (steps_new steps d count e) ∙ get_or-set_other steps d q count 0 other
-              | inr e ↦ ap (λ l. get_or l q 0) (steps_old steps d count e)
-            ] in
+            | inl e ↦ ap (λ l. get_or l q 0) (steps_new steps d count e) ∙ get_or-set_other steps d q count 0 other
+            | inr e ↦ ap (λ l. get_or l q 0) (steps_old steps d count e)
+          ] in
           same ∙ sym (ap (λ b. reached_in b count (get_or steps q 0)) there))
     ]
 
@@ -97,24 +97,24 @@ reached_step steps reached d count inside some r =
           let size = length-set steps d count in
           let here = get_or-set_same steps d count 0 inside in
           let now : IsReached (set steps d count) (reached ++ d ∷ []) = record {
-              all = λ q h. elim (cases_eq q d) [
-                  | inl same ↦ ap (has (reached ++ d ∷ [])) same ∙ has_new reached d
-                  | inr other ↦ has_kept reached d q (r.all q (λ z. h (get_or-set_other steps d q count 0 other ∙ z)))
-                ];
-              only = λ q h. elim (has_cases reached d q h) [
-                  | inl old ↦ (
-                      let o = r.only q old in
-                      let other : q ≢ d = λ same. both_ways (has reached d) new (ap (has reached) (sym same) ∙ old) in
-                      (omega (arith, o.0), λ z. o.1 (sym (get_or-set_other steps d q count 0 other) ∙ z)))
-                  | inr same ↦ (omega arith, λ z. some (sym here ∙ ap (λ k. get_or (set steps d count) k 0) same ∙ z))
-                ];
-              room = (
+            all = λ q h. elim (cases_eq q d) [
+              | inl same ↦ ap (has (reached ++ d ∷ [])) same ∙ has_new reached d
+              | inr other ↦ has_kept reached d q (r.all q (λ z. h (get_or-set_other steps d q count 0 other ∙ z)))
+            ];
+            only = λ q h. elim (has_cases reached d q h) [
+              | inl old ↦ (
+                  let o = r.only q old in
+                  let other : q ≢ d = λ same. both_ways (has reached d) new (ap (has reached) (sym same) ∙ old) in
+                  (omega (arith, o.0), λ z. o.1 (sym (get_or-set_other steps d q count 0 other) ∙ z)))
+              | inr same ↦ (omega arith, λ z. some (sym here ∙ ap (λ k. get_or (set steps d count) k 0) same ∙ z))
+            ];
+            room = (
                 let long = length-append reached (d ∷ []) in
                 let less = absent_new (length steps) reached d inside new in
                 let other : absent (length (set steps d count)) (reached ++ d ∷ []) ≡ absent (length steps) (reached ++ d ∷ []) = ap (λ n. absent n (reached ++ d ∷ [])) size in
                 let room = r.room in
                 omega arith);
-            } in
+          } in
           subst P (sym (steps_new steps d count e)) (subst Q (sym (list_new steps d reached e)) now))
     ]
 
@@ -129,8 +129,8 @@ pub added_step : (steps reached old : List ℕ) (d count : ℕ) → d < length s
     → (i : ℕ) → length old ≤ i → i < length (reached_with steps d reached) → get_or (steps_with steps d count) (get_or (reached_with steps d reached) i 0) 0 ≡ count
 added_step steps reached old d count inside some held i lo hi =
     let kept : i < length reached → get_or (steps_with steps d count) (get_or reached i 0) 0 ≡ count = λ lt. (
-      let was = held i lo lt in
-      steps_at steps d count (get_or reached i 0) inside ∙ reached_kept (d == get_or reached i 0) count (get_or steps (get_or reached i 0) 0) (λ z. some (sym was ∙ z)) ∙ was) in
+    let was = held i lo lt in
+    steps_at steps d count (get_or reached i 0) inside ∙ reached_kept (d == get_or reached i 0) count (get_or steps (get_or reached i 0) 0) (λ z. some (sym was ∙ z)) ∙ was) in
     elim (cases_eq (get_or steps d 0) 0) [
       | inl e ↦ (
           let is = list_new steps d reached e in
@@ -162,11 +162,11 @@ reach_loop drivers old steps reached old_reached i count steps2 reached2 lt insi
     let d = get_or drivers i 0 in
     let size = steps_size steps d count in
     let done : Reached drivers old (steps_with steps d count) old_reached (reached_with steps d reached) (i + 1) count = record {
-        moved = λ q h. moved_step drivers old steps i d count lt refl inside some moved q (omega arith);
-        is_reached = reached_step steps reached d count inside some is_reached;
-        front = front_step steps reached old_reached d front;
-        added = added_step steps reached old_reached d count inside some added;
-      } in
+      moved = λ q h. moved_step drivers old steps i d count lt refl inside some moved q (omega arith);
+      is_reached = reached_step steps reached d count inside some is_reached;
+      front = front_step steps reached old_reached d front;
+      added = added_step steps reached old_reached d count inside some added;
+    } in
     let P : List ℕ → Type 0 = λ l. Reached drivers old l old_reached (reached_with steps d reached) (i + 1) count in
     let Q : List ℕ → Type 0 = λ l. Reached drivers old steps2 old_reached l (i + 1) count in
     subst Q (sym e2) (subst P (sym e1) done)

@@ -1,9 +1,9 @@
 -- One step more, in levels, in what is left and in what is ready.
-use Rattle.std.proofs.Common.{◌≡◌, ◌≢◌, ℕ, zero, suc, ◌+◌, ◌-◌, ◌<◌, ◌≤◌, ◌==◌, ◌⊎◌, Bool, true, false, ◌&&◌, ◌||◌, not, max, List, [], ◌∷◌, ◌++◌, length, take, get_or, set, All, refl, sym, subst, ap, ◌∙◌, arith, ne_eqb, eq-eqb, inl, inr, length-append, length-set, take-suc, add-one, get_or-set_same, get_or-set_other, zero-add, add-zero}
+use Rattle.std.proofs.Common.{◌≡◌, ◌≢◌, ℕ, zero, suc, ◌+◌, ◌<◌, ◌≤◌, ◌==◌, Bool, true, false, ◌&&◌, ◌||◌, not, max, List, [], ◌∷◌, ◌++◌, length, take, get_or, set, refl, sym, subst, ap, ◌∙◌, arith, ne_eqb, eq-eqb, inl, inr, length-append, length-set, take-suc, add-one, get_or-set_same, get_or-set_other}
 use Rattle.std.proofs.lemmas.List.{take-append-le, length-take}
-use Rattle.std.proofs.lemmas.Bool.{both_ways, cases_Bool, cases_eq, eqb-true, eqb-false, false_from_ne_true}
+use Rattle.std.proofs.lemmas.Bool.{both_ways, cases_eq, false_from_ne_true}
 use Rattle.vod_fanout.specs.declared.Feed.{Feed}
-use Rattle.vod_level.specs.Lists.{has, has_feed, is_feed}
+use Rattle.vod_level.specs.Lists.{has}
 use Rattle.vod_level.specs.Peel.{one_if, times, waits, absent, added_if_none, raised, IsReady}
 use Rattle.vod_level.proofs.Counts.{has_push, has_kept, has_new, has_cases, taken, absent_nil, absent_new}
 
@@ -117,31 +117,31 @@ ready_step left ready x v inside is r =
     let here : get_or (set left x v) x 0 ≡ v = get_or-set_same left x v 0 inside in
     record {
       all = λ q h z. elim (cases_eq q x) [
-          | inl e ↦ (let none : v ≡ 0 = sym here ∙ ap (λ k. get_or (set left x v) k 0) (sym e) ∙ z in ap (λ l. has l q) (added_yes x v ready none) ∙ ap (has (ready ++ x ∷ [])) e ∙ has_new ready x)
-          | inr e ↦ (let old = r.all q (omega arith) (sym (get_or-set_other left x q v 0 e) ∙ z) in kept_if x v ready q old)
-        ];
+        | inl e ↦ (let none : v ≡ 0 = sym here ∙ ap (λ k. get_or (set left x v) k 0) (sym e) ∙ z in ap (λ l. has l q) (added_yes x v ready none) ∙ ap (has (ready ++ x ∷ [])) e ∙ has_new ready x)
+        | inr e ↦ (let old = r.all q (omega arith) (sym (get_or-set_other left x q v 0 e) ∙ z) in kept_if x v ready q old)
+      ];
       only = λ q h. elim (cases_eq v 0) [
-          | inl none ↦ elim (has_cases ready x q (ap (λ l. has l q) (sym (added_yes x v ready none)) ∙ h)) [
-              | inl old ↦ only_old left ready x v q size r new old
-              | inr e ↦ (let lt : q < length (set left x v) = omega arith in let z : get_or (set left x v) q 0 ≡ 0 = ap (λ k. get_or (set left x v) k 0) (sym e) ∙ here ∙ none in (lt, z))
-            ]
-          | inr some ↦ only_old left ready x v q size r new (ap (λ l. has l q) (sym (added_no x v ready some)) ∙ h)
-        ];
+        | inl none ↦ elim (has_cases ready x q (ap (λ l. has l q) (sym (added_yes x v ready none)) ∙ h)) [
+          | inl old ↦ only_old left ready x v q size r new old
+          | inr e ↦ (let lt : q < length (set left x v) = omega arith in let z : get_or (set left x v) q 0 ≡ 0 = ap (λ k. get_or (set left x v) k 0) (sym e) ∙ here ∙ none in (lt, z))
+        ]
+        | inr some ↦ only_old left ready x v q size r new (ap (λ l. has l q) (sym (added_no x v ready some)) ∙ h)
+      ];
       room = elim (cases_eq v 0) [
-          | inl none ↦ (
-              let is = added_yes x v ready none in
-              let long = ap length is ∙ length-append ready (x ∷ []) in
-              let less = absent_new (length left) ready x inside new in
-              let other : absent (length (set left x v)) (added_if_none x v ready) ≡ absent (length left) (ready ++ x ∷ []) = ap (absent (length (set left x v))) is ∙ ap (λ n. absent n (ready ++ x ∷ [])) size in
-              let room = r.room in
-              omega arith)
-          | inr some ↦ (
-              let is = added_no x v ready some in
-              let long = ap length is in
-              let other : absent (length (set left x v)) (added_if_none x v ready) ≡ absent (length left) ready = ap (absent (length (set left x v))) is ∙ ap (λ n. absent n ready) size in
-              let room = r.room in
-              omega arith)
-        ];
+        | inl none ↦ (
+            let is = added_yes x v ready none in
+            let long = ap length is ∙ length-append ready (x ∷ []) in
+            let less = absent_new (length left) ready x inside new in
+            let other : absent (length (set left x v)) (added_if_none x v ready) ≡ absent (length left) (ready ++ x ∷ []) = ap (absent (length (set left x v))) is ∙ ap (λ n. absent n (ready ++ x ∷ [])) size in
+            let room = r.room in
+            omega arith)
+        | inr some ↦ (
+            let is = added_no x v ready some in
+            let long = ap length is in
+            let other : absent (length (set left x v)) (added_if_none x v ready) ≡ absent (length left) ready = ap (absent (length (set left x v))) is ∙ ap (λ n. absent n ready) size in
+            let room = r.room in
+            omega arith)
+      ];
     }
 
 -- those that are ready among the first k
@@ -152,10 +152,10 @@ pub record IsReadyTo (k : ℕ) (left ready : List ℕ) : Type 0 where
 
 pub to_start : (left : List ℕ) → IsReadyTo 0 left []
 to_start left = record {
-    all = λ q h z. absurd (omega arith);
-    only = λ q h. absurd (let e : false ≡ true = h in cc);
-    room = (let e = absent_nil (length left) in omega arith);
-  }
+  all = λ q h z. absurd (omega arith);
+  only = λ q h. absurd (let e : false ≡ true = h in cc);
+  room = (let e = absent_nil (length left) in omega arith);
+}
 
 pub to_step : (k : ℕ) (left ready : List ℕ) → k < length left → IsReadyTo k left ready → IsReadyTo (k + 1) left (added_if_none k (get_or left k 0) ready)
 to_step k left ready inside r =
@@ -163,39 +163,39 @@ to_step k left ready inside r =
     let new : has ready k ≡ false = false_from_ne_true (has ready k) (λ h. let o = r.only k h in omega (arith, o.0)) in
     record {
       all = λ q h z. elim (cases_eq q k) [
-          | inl e ↦ (let none : v ≡ 0 = ap (λ i. get_or left i 0) (sym e) ∙ z in ap (λ l. has l q) (added_yes k v ready none) ∙ ap (has (ready ++ k ∷ [])) e ∙ has_new ready k)
-          | inr e ↦ kept_if k v ready q (r.all q (omega arith) z)
-        ];
+        | inl e ↦ (let none : v ≡ 0 = ap (λ i. get_or left i 0) (sym e) ∙ z in ap (λ l. has l q) (added_yes k v ready none) ∙ ap (has (ready ++ k ∷ [])) e ∙ has_new ready k)
+        | inr e ↦ kept_if k v ready q (r.all q (omega arith) z)
+      ];
       only = λ q h. elim (cases_eq v 0) [
-          | inl none ↦ elim (has_cases ready k q (ap (λ l. has l q) (sym (added_yes k v ready none)) ∙ h)) [
-              | inl old ↦ (let o = r.only q old in (omega (arith, o.0), o.1))
-              | inr e ↦ (omega arith, ap (λ i. get_or left i 0) (sym e) ∙ none)
-            ]
-          | inr some ↦ (let o = r.only q (ap (λ l. has l q) (sym (added_no k v ready some)) ∙ h) in (omega (arith, o.0), o.1))
-        ];
+        | inl none ↦ elim (has_cases ready k q (ap (λ l. has l q) (sym (added_yes k v ready none)) ∙ h)) [
+          | inl old ↦ (let o = r.only q old in (omega (arith, o.0), o.1))
+          | inr e ↦ (omega arith, ap (λ i. get_or left i 0) (sym e) ∙ none)
+        ]
+        | inr some ↦ (let o = r.only q (ap (λ l. has l q) (sym (added_no k v ready some)) ∙ h) in (omega (arith, o.0), o.1))
+      ];
       room = elim (cases_eq v 0) [
-          | inl none ↦ (
-              let is = added_yes k v ready none in
-              let long = ap length is ∙ length-append ready (k ∷ []) in
-              let less = absent_new (length left) ready k inside new in
-              let other = ap (absent (length left)) is in
-              let room = r.room in
-              omega arith)
-          | inr some ↦ (
-              let is = added_no k v ready some in
-              let long = ap length is in
-              let other = ap (absent (length left)) is in
-              let room = r.room in
-              omega arith)
-        ];
+        | inl none ↦ (
+            let is = added_yes k v ready none in
+            let long = ap length is ∙ length-append ready (k ∷ []) in
+            let less = absent_new (length left) ready k inside new in
+            let other = ap (absent (length left)) is in
+            let room = r.room in
+            omega arith)
+        | inr some ↦ (
+            let is = added_no k v ready some in
+            let long = ap length is in
+            let other = ap (absent (length left)) is in
+            let room = r.room in
+            omega arith)
+      ];
     }
 
 pub to_end : (k : ℕ) (left ready : List ℕ) → length left ≡ k → IsReadyTo k left ready → IsReady left ready
 to_end k left ready e r = record {
-    all = λ q h z. r.all q (omega arith) z;
-    only = λ q h. (let o = r.only q h in (omega (arith, o.0), o.1));
-    room = r.room;
-  }
+  all = λ q h z. r.all q (omega arith) z;
+  only = λ q h. (let o = r.only q h in (omega (arith, o.0), o.1));
+  room = r.room;
+}
 
 -- the feeds of each driver
 pub waits_snoc : (fs : List Feed) (f : Feed) (q : ℕ) → waits [] (fs ++ f ∷ []) q ≡ waits [] fs q + one_if (f.reader == q)

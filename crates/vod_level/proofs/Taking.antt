@@ -1,15 +1,15 @@
 -- One driver more is taken away.
-use Rattle.std.proofs.Common.{◌≡◌, ◌≢◌, ℕ, zero, suc, ◌+◌, ◌-◌, ◌<◌, ◌≤◌, ◌==◌, ◌⊎◌, Bool, true, false, ◌&&◌, ◌||◌, not, if◌then◌else◌, max, List, [], ◌∷◌, ◌++◌, length, take, drop, replicate, get_or, All, refl, sym, subst, ap, ◌∙◌, arith, inl, inr, zero-add}
+use Rattle.std.proofs.Common.{◌≡◌, ◌≢◌, ℕ, zero, suc, ◌+◌, ◌<◌, ◌≤◌, ◌==◌, ◌⊎◌, Bool, true, false, ◌&&◌, if◌then◌else◌, max, List, [], ◌∷◌, ◌++◌, length, take, drop, replicate, get_or, All, refl, sym, subst, ap, ◌∙◌, arith, inl, inr, zero-add}
 use Rattle.std.proofs.Math.Seq.{take-append_seam}
 use Rattle.std.proofs.lemmas.List.{length-take, take_all}
 use Rattle.std.proofs.lemmas.List.Elements.{All-nil, All-cons, All-head, All-tail}
 use Rattle.std.proofs.lemmas.Bool.{both_ways, cases_Bool, cases_lt, cases_eq, or_cases, and_parts, eqb-true, false_from_ne_true}
 use Rattle.vod_fanout.specs.declared.Feed.{Feed}
-use Rattle.vod_fanout.specs.FanOut.{readers_of, each_from, fan_out}
+use Rattle.vod_fanout.specs.FanOut.{readers_of, fan_out}
 use Rattle.vod_fanout.proofs.Lists.{each_at}
-use Rattle.vod_level.specs.Lists.{has, has_feed, is_feed}
-use Rattle.vod_level.specs.Peel.{one_if, times, waits, absent, raised, IsReady, Peeling, IsPeeled}
-use Rattle.vod_level.proofs.Counts.{has_kept, has_new, has_cases, has_front, has_at, has_reader, taken, is_new, times_some, waits_push, waits_zero, waits_some, absent_nil}
+use Rattle.vod_level.specs.Lists.{has, has_feed}
+use Rattle.vod_level.specs.Peel.{times, waits, absent, raised, IsReady, Peeling, IsPeeled}
+use Rattle.vod_level.proofs.Counts.{has_kept, has_new, has_cases, has_front, has_at, has_reader, taken, is_new, times_some, waits_push, waits_zero, waits_some}
 
 -- a feed is between numbers below n
 pub feed_source : (fs : List Feed) (n p q : ℕ) → All (λ f. f.source < n) fs → has_feed fs p q ≡ true → p < n
@@ -65,9 +65,9 @@ fed edges n next ready levels left inside lt s q =
           let w = s.waiting q less in
           omega arith)
       | inr more ↦ elim (cases_eq (times (readers_of edges p) q) 0) [
-          | inl none ↦ omega arith
-          | inr some ↦ (let h = feed_reader edges n p q inside (sym (has_reader edges p q) ∙ times_some (readers_of edges p) q some) in absurd (omega arith))
-        ]
+        | inl none ↦ omega arith
+        | inr some ↦ (let h = feed_reader edges n p q inside (sym (has_reader edges p q) ∙ times_some (readers_of edges p) q some) in absurd (omega arith))
+      ]
     ]
 
 raised_at : (b : Bool) (level old : ℕ) → (old ≤ raised b level old) × (raised b level old ≤ max old (level + 1))
@@ -103,67 +103,67 @@ peel_step edges n next ready levels left ready2 levels2 left2 sources readers lt
     let inside : (r : ℕ) → has ready r ≡ true → r < length levels = λ r h. (let o = s.is_ready.only r h in omega (arith, o.0, s.left_size, s.levels_size)) in
     let same : (r : ℕ) → has ready r ≡ true → get_or levels2 r 0 ≡ get_or levels r 0 = λ r h. lifted r (inside r h) ∙ ap (λ b. raised b (get_or levels p 0) (get_or levels r 0)) (quiet r h) in
     let more : (q : ℕ) → q < n → (get_or levels q 0 ≤ get_or levels2 q 0) × (get_or levels2 q 0 ≤ max (get_or levels q 0) (get_or levels p 0 + 1)) = λ q h. (
-      let e = lifted q (omega (arith, s.levels_size)) in
-      let r = raised_at (has rs q) (get_or levels p 0) (get_or levels q 0) in
-      (omega (arith, r.0), omega (arith, r.1))) in
+    let e = lifted q (omega (arith, s.levels_size)) in
+    let r = raised_at (has rs q) (get_or levels p 0) (get_or levels q 0) in
+    (omega (arith, r.0), omega (arith, r.1))) in
     let old_least : (q : ℕ) → get_or levels2 q 0 ≡ get_or levels q 0 → (get_or levels2 q 0 ≡ 0) ⊎ ((p : ℕ) × (has_feed edges p q ≡ true) × (has (take (next + 1) ready2) p ≡ true) × (get_or levels2 q 0 ≡ get_or levels2 p 0 + 1)) = λ q e. elim (s.least q) [
-          | inl none ↦ inl (e ∙ none)
-          | inr some ↦ inr (some.0, some.1, now some.0 ∙ has_kept done p some.0 some.2, e ∙ some.3 ∙ ap (λ v. v + 1) (sym (same some.0 (has_front ready next some.0 some.2))))
-        ] in
+      | inl none ↦ inl (e ∙ none)
+      | inr some ↦ inr (some.0, some.1, now some.0 ∙ has_kept done p some.0 some.2, e ∙ some.3 ∙ ap (λ v. v + 1) (sym (same some.0 (has_front ready next some.0 some.2))))
+    ] in
     record {
       levels_size = long_levels ∙ s.levels_size;
       left_size = long_left ∙ s.left_size;
       within = (let size = ap length front in let cut = length-take (length ready) ready2 in omega arith);
       waiting = λ q h. (
-        let w = s.waiting q h in
-        let e = waits_push done p edges q new in
-        let l = less q in
-        let same : waits (take (next + 1) ready2) edges q ≡ waits (done ++ p ∷ []) edges q = ap (λ d. waits d edges q) done2 in
-        omega arith);
+          let w = s.waiting q h in
+          let e = waits_push done p edges q new in
+          let l = less q in
+          let same : waits (take (next + 1) ready2) edges q ≡ waits (done ++ p ∷ []) edges q = ap (λ d. waits d edges q) done2 in
+          omega arith);
       is_ready = is_ready2;
       low = λ q. elim (cases_lt q n) [
-          | inl h ↦ (let m = more q h in let a = s.low q in let b = s.low p in omega (arith, m.1))
-          | inr h ↦ (let e = get_or_past levels2 q (omega (arith, s.levels_size)) in omega arith)
-        ];
+        | inl h ↦ (let m = more q h in let a = s.low q in let b = s.low p in omega (arith, m.1))
+        | inr h ↦ (let e = get_or_past levels2 q (omega (arith, s.levels_size)) in omega arith)
+      ];
       rises = λ r q e h. (
-        let below = feed_reader edges n r q readers e in
-        let m = more q below in
-        elim (has_cases done p r (sym (now r) ∙ h)) [
-          | inl old ↦ (let was = s.rises r q e old in let v = same r (has_front ready next r old) in omega (arith, m.0))
-          | inr is ↦ (
-              let reads : has rs q ≡ true = has_reader edges p q ∙ ap (λ k. has_feed edges k q) is ∙ e in
-              let l = lifted q (omega (arith, s.levels_size)) ∙ ap (λ b. raised b (get_or levels p 0) (get_or levels q 0)) reads in
-              let v = same p p_ready in
-              let at : get_or levels2 r 0 ≡ get_or levels2 p 0 = ap (λ k. get_or levels2 k 0) (sym is) in
-              omega arith)
-        ]);
+          let below = feed_reader edges n r q readers e in
+          let m = more q below in
+          elim (has_cases done p r (sym (now r) ∙ h)) [
+            | inl old ↦ (let was = s.rises r q e old in let v = same r (has_front ready next r old) in omega (arith, m.0))
+            | inr is ↦ (
+                let reads : has rs q ≡ true = has_reader edges p q ∙ ap (λ k. has_feed edges k q) is ∙ e in
+                let l = lifted q (omega (arith, s.levels_size)) ∙ ap (λ b. raised b (get_or levels p 0) (get_or levels q 0)) reads in
+                let v = same p p_ready in
+                let at : get_or levels2 r 0 ≡ get_or levels2 p 0 = ap (λ k. get_or levels2 k 0) (sym is) in
+                omega arith)
+          ]);
       least = λ q. elim (cases_lt q n) [
-          | inl h ↦ elim (cases_Bool (has rs q)) [
-              | inl reads ↦ (
-                  let l = lifted q (omega (arith, s.levels_size)) ∙ ap (λ b. raised b (get_or levels p 0) (get_or levels q 0)) reads in
-                  elim (cases_lt (get_or levels q 0) (get_or levels p 0 + 1)) [
-                    | inl up ↦ inr (p, sym (has_reader edges p q) ∙ reads, now p ∙ has_new done p, (let v = same p p_ready in let t : get_or levels2 q 0 ≡ get_or levels2 p 0 + 1 = omega arith in t))
-                    | inr stays ↦ old_least q (omega arith)
-                  ])
-              | inr other ↦ old_least q (lifted q (omega (arith, s.levels_size)) ∙ ap (λ b. raised b (get_or levels p 0) (get_or levels q 0)) other)
-            ]
-          | inr h ↦ inl (get_or_past levels2 q (omega (arith, s.levels_size)))
-        ];
+        | inl h ↦ elim (cases_Bool (has rs q)) [
+          | inl reads ↦ (
+              let l = lifted q (omega (arith, s.levels_size)) ∙ ap (λ b. raised b (get_or levels p 0) (get_or levels q 0)) reads in
+              elim (cases_lt (get_or levels q 0) (get_or levels p 0 + 1)) [
+                | inl up ↦ inr (p, sym (has_reader edges p q) ∙ reads, now p ∙ has_new done p, (let v = same p p_ready in let t : get_or levels2 q 0 ≡ get_or levels2 p 0 + 1 = omega arith in t))
+                | inr stays ↦ old_least q (omega arith)
+              ])
+          | inr other ↦ old_least q (lifted q (omega (arith, s.levels_size)) ∙ ap (λ b. raised b (get_or levels p 0) (get_or levels q 0)) other)
+        ]
+        | inr h ↦ inl (get_or_past levels2 q (omega (arith, s.levels_size)))
+      ];
     }
 
 -- none is taken away at first
 pub peel_start : (edges : List Feed) (n : ℕ) (ready levels left : List ℕ) → length levels ≡ n → length left ≡ n → ((q : ℕ) → get_or levels q 0 ≡ 0) → ((q : ℕ) → q < n → get_or left q 0 ≡ waits [] edges q) → IsReady left ready
     → Peeling edges n 0 ready levels left
 peel_start edges n ready levels left a b zeros held r = record {
-    levels_size = a;
-    left_size = b;
-    within = omega arith;
-    waiting = held;
-    is_ready = r;
-    low = λ q. (let z = zeros q in omega arith);
-    rises = λ p q e h. absurd (let f : false ≡ true = h in cc);
-    least = λ q. inl (zeros q);
-  }
+  levels_size = a;
+  left_size = b;
+  within = omega arith;
+  waiting = held;
+  is_ready = r;
+  low = λ q. (let z = zeros q in omega arith);
+  rises = λ p q e h. absurd (let f : false ≡ true = h in cc);
+  least = λ q. inl (zeros q);
+}
 
 stuck_below : (left : List ℕ) (q n : ℕ) → length left ≡ n → get_or left q 0 ≢ 0 → q < n
 stuck_below left q n size h = elim (cases_lt q n) [ inl less ↦ less | inr far ↦ absurd (h (get_or_past left q (omega arith))) ]
@@ -178,17 +178,20 @@ peel_end edges n next ready levels left sources readers end s =
       left_size = s.left_size;
       low = λ q. (let l = s.low q in omega arith);
       behind = λ p q e h. (
-        let below = feed_reader edges n p q readers e in
-        let r = s.is_ready.all q (omega (arith, s.left_size)) h in
-        let d = feeds_zero edges n next ready levels left s p q r e in
-        ((s.is_ready.only p (has_front ready next p d)).1, s.rises p q e d));
+          let below = feed_reader edges n p q readers e in
+          let r = s.is_ready.all q (omega (arith, s.left_size)) h in
+          let d = feeds_zero edges n next ready levels left s p q r e in
+          ((s.is_ready.only p (has_front ready next p d)).1, s.rises p q e d));
       least = λ q below h. elim (s.least q) [ inl none ↦ inl none | inr some ↦ inr (some.0, some.1, some.3) ];
       stuck = λ q h. (
-        let below : q < n = stuck_below left q n s.left_size h in
-        let w = waits_some (take next ready) edges q (λ z. h (s.waiting q below ∙ z)) in
-        (w.0, w.1, λ z. (
-          let r = s.is_ready.all w.0 (omega (arith, feed_source edges n w.0 q sources w.1, s.left_size)) z in
-          both_ways (has (take next ready) w.0) w.2 (ap (λ l. has l w.0) done ∙ r))));
+          let below : q < n = stuck_below left q n s.left_size h in
+          let w = waits_some (take next ready) edges q (λ z. h (s.waiting q below ∙ z)) in (
+            w.0,
+            w.1,
+            λ z. (
+                let r = s.is_ready.all w.0 (omega (arith, feed_source edges n w.0 q sources w.1, s.left_size)) z in
+                both_ways (has (take next ready) w.0) w.2 (ap (λ l. has l w.0) done ∙ r)),
+          ));
     }
 
 -- the next one is a driver
@@ -225,9 +228,9 @@ peel_next edges n next ready levels left driver level its its2 held_levels held_
     let new1 = written levels2 levels a (a_is ∙ sym long1) in
     let new2 = written left2 left b (b_is ∙ sym long2) in
     let up : (q : ℕ) → q < length levels → get_or levels2 q 0 ≡ raised (has (readers_of edges p) q) (get_or levels p 0) (get_or levels q 0) = λ q h. (
-      let held = ap length levels_are in
-      lifted q (omega arith) ∙ ap (λ l. raised (has l q) level (get_or held_levels q 0)) rs ∙ ap (λ v. raised (has (readers_of edges p) q) v (get_or held_levels q 0)) at_p
-      ∙ ap (λ l. raised (has (readers_of edges p) q) (get_or levels p 0) (get_or l q 0)) levels_are) in
+    let held = ap length levels_are in
+    lifted q (omega arith) ∙ ap (λ l. raised (has l q) level (get_or held_levels q 0)) rs ∙ ap (λ v. raised (has (readers_of edges p) q) v (get_or held_levels q 0)) at_p
+    ∙ ap (λ l. raised (has (readers_of edges p) q) (get_or levels p 0) (get_or l q 0)) levels_are) in
     let down : (q : ℕ) → get_or left2 q 0 + times (readers_of edges p) q ≡ get_or left q 0 = λ q. ap (λ l. get_or left2 q 0 + times l q) (sym rs2) ∙ less q ∙ ap (λ l. get_or l q 0) left_are in
     let done = peel_step edges n next ready levels left ready2 levels2 left2 sources readers lt s long1 long2 up down is_ready front in
     let P : List ℕ → Type 0 = λ l. Peeling edges n (next + 1) ready2 l left2 in

@@ -1,14 +1,13 @@
 -- From a driver to the least nearer one, again and again.
-use Rattle.std.proofs.Common.{◌≡◌, ◌≢◌, ℕ, zero, suc, ◌+◌, ◌-◌, ◌^◌, ◌<◌, ◌≤◌, ◌==◌, ◌⊎◌, min, Bool, true, false, ◌&&◌, ◌||◌, if◌then◌else◌, List, [], ◌∷◌, ◌++◌, length, take, get_or, map, All, refl, sym, subst, ap, ◌∙◌, arith, inl, inr, zero-add, append_assoc, append-nil, eq-eqb, ne_eqb}
+use Rattle.std.proofs.Common.{◌≡◌, ◌≢◌, ℕ, suc, ◌+◌, ◌-◌, ◌^◌, ◌<◌, ◌≤◌, ◌==◌, ◌⊎◌, min, Bool, true, false, ◌&&◌, ◌||◌, if◌then◌else◌, List, [], ◌∷◌, ◌++◌, length, take, get_or, All, refl, sym, subst, ap, ◌∙◌, arith, inl, inr, append_assoc, append-nil, eq-eqb}
 use Rattle.std.proofs.lemmas.List.{take_all}
 use Rattle.std.proofs.lemmas.List.Elements.{All-nil, All-cons, All-head, All-tail}
-use Rattle.std.proofs.lemmas.Bool.{both_ways, cases_Bool, cases_lt, cases_eq, or_cases, eqb-true}
+use Rattle.std.proofs.lemmas.Bool.{both_ways, cases_Bool, cases_lt, eqb-true}
 use Rattle.vod_fanout.specs.declared.Feed.{Feed}
 use Rattle.vod_fanout.specs.FanOut.{readers_of}
-use Rattle.vod_level.specs.Lists.{has, has_feed, is_feed, feed}
+use Rattle.vod_level.specs.Lists.{has, has_feed, feed}
 use Rattle.vod_level.specs.Steps.{turned_feeds, IsSteps, IsNearest, IsWalk, IsRound}
 use Rattle.vod_level.proofs.Counts.{has_kept, has_new, has_cases, taken, has_reader}
-use Rattle.vod_level.proofs.Steps.{get_or_any}
 use Rattle.vod_level.proofs.Searching.{has_index}
 
 -- the nearest among some of the drivers, or none
@@ -26,9 +25,9 @@ pub nearest_step : (drivers steps : List ℕ) (i count least d new : ℕ) → i 
 nearest_step drivers steps i count least d new lt is made s =
     let front : take (i + 1) drivers ≡ take i drivers ++ d ∷ [] = taken drivers i 0 lt ∙ ap (λ x. take i drivers ++ x ∷ []) (sym is) in
     let old_found : new ≡ least → (new ≡ 2 ^ 32 - 1) ⊎ ((has (take (i + 1) drivers) new ≡ true) × (get_or steps new 0 ≡ count)) = λ e. elim s.found [
-          | inl none ↦ inl (e ∙ none)
-          | inr some ↦ inr (ap (λ l. has l new) front ∙ has_kept (take i drivers) d new (ap (has (take i drivers)) e ∙ some.0), ap (λ k. get_or steps k 0) e ∙ some.1)
-        ] in
+      | inl none ↦ inl (e ∙ none)
+      | inr some ↦ inr (ap (λ l. has l new) front ∙ has_kept (take i drivers) d new (ap (has (take i drivers)) e ∙ some.0), ap (λ k. get_or steps k 0) e ∙ some.1)
+    ] in
     let low : new ≤ least = (let m = min_cases least (if get_or steps d 0 == count then d else 2 ^ 32 - 1) in omega arith) in
     elim (cases_Bool (get_or steps d 0 == count)) [
       | inl yes_it ↦ (
@@ -36,25 +35,25 @@ nearest_step drivers steps i count least d new lt is made s =
           let is_min : new ≡ min least d = made ∙ ap (λ b. min least (if b then d else 2 ^ 32 - 1)) yes_it in
           record {
             found = elim (min_cases least d) [
-                | inl e ↦ old_found (is_min ∙ e)
-                | inr e ↦ (let n : new ≡ d = is_min ∙ e in inr (ap (λ l. has l new) front ∙ ap (has (take i drivers ++ d ∷ [])) n ∙ has_new (take i drivers) d, ap (λ k. get_or steps k 0) n ∙ at))
-              ];
+              | inl e ↦ old_found (is_min ∙ e)
+              | inr e ↦ (let n : new ≡ d = is_min ∙ e in inr (ap (λ l. has l new) front ∙ ap (has (take i drivers ++ d ∷ [])) n ∙ has_new (take i drivers) d, ap (λ k. get_or steps k 0) n ∙ at))
+            ];
             below = λ q h e. elim (has_cases (take i drivers) d q (ap (λ l. has l q) (sym front) ∙ h)) [
-                | inl old ↦ (let b = s.below q old e in omega arith)
-                | inr same ↦ omega arith
-              ];
+              | inl old ↦ (let b = s.below q old e in omega arith)
+              | inr same ↦ omega arith
+            ];
           })
       | inr other ↦ (
           let is_min : new ≡ min least (2 ^ 32 - 1) = made ∙ ap (λ b. min least (if b then d else 2 ^ 32 - 1)) other in
           record {
             found = elim (min_cases least (2 ^ 32 - 1)) [
-                | inl e ↦ old_found (is_min ∙ e)
-                | inr e ↦ inl (is_min ∙ e)
-              ];
+              | inl e ↦ old_found (is_min ∙ e)
+              | inr e ↦ inl (is_min ∙ e)
+            ];
             below = λ q h e. elim (has_cases (take i drivers) d q (ap (λ l. has l q) (sym front) ∙ h)) [
-                | inl old ↦ (let b = s.below q old e in omega arith)
-                | inr same ↦ absurd (not_at (get_or steps d 0) count other (ap (λ k. get_or steps k 0) same ∙ e))
-              ];
+              | inl old ↦ (let b = s.below q old e in omega arith)
+              | inr same ↦ absurd (not_at (get_or steps d 0) count other (ap (λ k. get_or steps k 0) same ∙ e))
+            ];
           })
     ]
 
@@ -66,7 +65,7 @@ nearest_end drivers steps i count least q end inside few there at s =
     let low = s.below q (ap (λ l. has l q) all ∙ there) at in
     elim s.found [
       | inl none ↦ absurd (omega (arith, index.2))
-      | inr some ↦ record { among = ap (λ l. has l least) (sym all) ∙ some.0; at = some.1; below = λ p h e. s.below p (ap (λ l. has l p) all ∙ h) e; }
+      | inr some ↦ record { among = ap (λ l. has l least) (sym all) ∙ some.0; at = some.1; below = λ p h e. s.below p (ap (λ l. has l p) all ∙ h) e }
     ]
 
 -- a feed that is turned
@@ -128,16 +127,16 @@ walk_step fs n goal steps driver left next cycle cycle2 more near added w =
       tail = w.tail ++ next ∷ [];
       begins = added ∙ ap (λ l. l ++ next ∷ []) w.begins;
       goes_on = λ rest v. (
-        let step : get_or steps driver 0 ≡ get_or steps next 0 + 1 = omega arith in
-        let longer : IsWalk (has_feed fs) steps driver (next ∷ rest) = (
+          let step : get_or steps driver 0 ≡ get_or steps next 0 + 1 = omega arith in
+          let longer : IsWalk (has_feed fs) steps driver (next ∷ rest) = (
             sym (has_reader fs driver next) ∙ near.among,
             (λ z. few_less left (sym at ∙ z) more),
             step,
             (λ q e same. near.below q (has_reader fs driver q ∙ e) (same ∙ at)),
             v,
           ) in
-        let P : List ℕ → Type 0 = IsWalk (has_feed fs) steps goal in
-        subst P (sym (append_assoc w.tail (next ∷ []) rest)) (w.goes_on (next ∷ rest) longer));
+          let P : List ℕ → Type 0 = IsWalk (has_feed fs) steps goal in
+          subst P (sym (append_assoc w.tail (next ∷ []) rest)) (w.goes_on (next ∷ rest) longer));
     }
 
 pub walk_end : (fs : List Feed) (steps : List ℕ) (goal driver left : ℕ) (cycle : List ℕ) → left ≤ 1 → Walking fs steps goal driver left cycle → IsRound (has_feed fs) steps goal cycle

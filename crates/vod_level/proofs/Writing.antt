@@ -1,10 +1,8 @@
 -- Which bits drivers write and read, step by step and in all.
-use Rattle.std.proofs.Common.{◌≡◌, ◌≢◌, ℕ, zero, suc, ◌+◌, ◌-◌, ◌*◌, ◌<◌, ◌≤◌, ◌==◌, ◌⊎◌, min, Bool, true, false, ◌&&◌, ◌||◌, if◌then◌else◌, nat_lt, nat_le, Option, Some, None, List, [], ◌∷◌, ◌++◌, length, take, get_or, map, All, refl, sym, subst, ap, ◌∙◌, arith, inl, inr, zero-add, add-zero, add-one, eq-eqb, append_assoc, append-nil, take-suc}
+use Rattle.std.proofs.Common.{◌≡◌, ℕ, zero, suc, ◌+◌, ◌-◌, ◌*◌, ◌<◌, ◌≤◌, ◌==◌, min, Bool, true, false, ◌&&◌, ◌||◌, if◌then◌else◌, nat_lt, nat_le, Some, List, [], ◌∷◌, ◌++◌, length, take, get_or, map, refl, sym, subst, ap, ◌∙◌, arith, inl, inr, zero-add, add-zero, add-one, eq-eqb, append_assoc, append-nil, take-suc}
 use Rattle.std.specs.List.{list_any, slice_get}
-use Rattle.std.proofs.lemmas.List.{length-take-le, take_all}
-use Rattle.std.proofs.lemmas.List.Elements.{All-head, All-tail}
-use Rattle.std.proofs.lemmas.List.Folds.{list_any-append}
-use Rattle.std.proofs.lemmas.Bool.{cases_Bool, cases_lt, cases_eq, or_cases, or_left, or_right, and_parts, and_from, eqb-true, ltb-true, leb-true, lt-ltb, le-ltb, le-leb}
+use Rattle.std.proofs.lemmas.List.{length-take-le}
+use Rattle.std.proofs.lemmas.Bool.{cases_lt, cases_eq, or_cases, or_left, or_right, and_parts, and_from, eqb-true, ltb-true, leb-true, lt-ltb, le-ltb, le-leb}
 use Rattle.vod_bits.specs.declared.TheConstants.{WIDTH}
 use Rattle.vod_design.specs.declared.parts.Driver.{Driver}
 use Rattle.vod_design.specs.declared.statement.Place.{Place}
@@ -13,14 +11,11 @@ use Rattle.vod_design.specs.declared.read.Read.TheVariants.{Whole, Bits, Word, R
 use Rattle.vod_design.specs.Reads.{reads}
 use Rattle.vod_design.specs.Values.{bounded}
 use Rattle.vod_fanout.specs.declared.Feed.{Feed}
-use Rattle.vod_fanout.specs.FanOut.{readers_of, each_from, fan_out}
-use Rattle.vod_fanout.proofs.Lists.{each_at}
 use Rattle.vod_level.specs.declared.TheConstants.{SIGNALS}
 use Rattle.vod_level.specs.declared.edges.Span.{Span}
-use Rattle.vod_level.specs.Feeds.{is_read, meets, both_meet, feeds}
-use Rattle.vod_level.specs.Lists.{has, has_feed, is_feed, feed}
+use Rattle.vod_level.specs.Feeds.{is_read}
+use Rattle.vod_level.specs.Lists.{has, has_feed, feed}
 use Rattle.vod_level.specs.Bits.{number_of, written_from, span_of, read_span, writes_among, writes_read, feeds_from}
-use Rattle.vod_level.proofs.Counts.{has_reader}
 
 taken : {X : Type 0} (xs : List X) (i : ℕ) (d : X) → i < length xs → take (i + 1) xs ≡ take i xs ++ get_or xs i d ∷ []
 taken xs i d h = rw (add-one i) (take-suc xs i d h)

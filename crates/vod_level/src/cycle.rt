@@ -10,7 +10,12 @@ use std::alloc::{AllocError, Global};
 use vod_fanout::{FanOut, Feed};
 
 /// The shortest cycle that begins with the least driver on one, and the least of these when compared number by number.
-pub fn least_cycle(alloc: Global, count: u32, feeds: &[Feed], peeled: &Peeled) -> Result<Vec<u32>, AllocError>
+pub fn least_cycle(
+    alloc: Global,
+    count: u32,
+    feeds: &[Feed],
+    peeled: &Peeled,
+) -> Result<Vec<u32>, AllocError>
     requires few { count < 2 ^ 25 }
     requires sources { All (λ f. f.source < count) feeds.now }
     requires readers { All (λ f. f.reader < count) feeds.now }
@@ -32,7 +37,13 @@ pub fn least_cycle(alloc: Global, count: u32, feeds: &[Feed], peeled: &Peeled) -
 }
 
 // The least of the shortest cycles that begin with a driver, if there is one.
-fn cycle_from(alloc: Global, count: u32, feeds: &[Feed], turned: &[Feed], driver: u32) -> Result<Option<Vec<u32>>, AllocError>
+fn cycle_from(
+    alloc: Global,
+    count: u32,
+    feeds: &[Feed],
+    turned: &[Feed],
+    driver: u32,
+) -> Result<Option<Vec<u32>>, AllocError>
     requires few { count < 2 ^ 25 }
     requires sources { All (λ f. f.source < count) feeds.now }
     requires readers { All (λ f. f.reader < count) feeds.now }
@@ -86,7 +97,12 @@ fn steps_to(alloc: Global, count: u32, turned: &[Feed], goal: u32) -> Result<Vec
 }
 
 // Reaches those of these drivers that weren't reached yet, with so many steps.
-fn reach(drivers: &[u32], count: u32, steps: &mut [u32], reached: &mut Vec<u32>) -> Result<(), AllocError>
+fn reach(
+    drivers: &[u32],
+    count: u32,
+    steps: &mut [u32],
+    reached: &mut Vec<u32>,
+) -> Result<(), AllocError>
     requires inside { All (λ q. q < length steps.old) drivers.now }
     requires some { count ≢ 0 }
     requires before { IsReached steps.old reached.old.items }
@@ -102,7 +118,12 @@ fn reach(drivers: &[u32], count: u32, steps: &mut [u32], reached: &mut Vec<u32>)
 }
 
 // Reaches a driver, unless it was reached before.
-fn reach_one(driver: u32, count: u32, steps: &mut [u32], reached: &mut Vec<u32>) -> Result<(), AllocError>
+fn reach_one(
+    driver: u32,
+    count: u32,
+    steps: &mut [u32],
+    reached: &mut Vec<u32>,
+) -> Result<(), AllocError>
     requires { driver < length steps.old }
     ensures steps { OnOk result (steps.new ≡ steps_with steps.old driver count) }
     ensures reached { OnOk result (reached.new.items ≡ reached_with steps.old driver reached.old.items) }
@@ -116,7 +137,13 @@ fn reach_one(driver: u32, count: u32, steps: &mut [u32], reached: &mut Vec<u32>)
 }
 
 // The cycle that goes from a driver over the least nearer one each time.
-fn walk(alloc: Global, count: u32, feeds: &[Feed], steps: &[u32], goal: u32) -> Result<Vec<u32>, AllocError>
+fn walk(
+    alloc: Global,
+    count: u32,
+    feeds: &[Feed],
+    steps: &[u32],
+    goal: u32,
+) -> Result<Vec<u32>, AllocError>
     requires few { count < 2 ^ 25 }
     requires sources { All (λ f. f.source < count) feeds.now }
     requires readers { All (λ f. f.reader < count) feeds.now }

@@ -131,7 +131,12 @@ fn bits(signal: u32, low: u32, high: u32) -> Span
 }
 
 // Adds the feeds of a driver that reads these.
-fn add_all(writers: &FanOut, reads: &[Read], reader: u32, list: &mut Vec<Feed>) -> Result<(), AllocError>
+fn add_all(
+    writers: &FanOut,
+    reads: &[Read],
+    reader: u32,
+    list: &mut Vec<Feed>,
+) -> Result<(), AllocError>
     requires { length writers.now ≡ SIGNALS * WIDTH }
     ensures { OnOk result ((p q : ℕ) → has_feed list.new.items p q ≡ (has_feed list.old.items p q || (list_any (writes_read writers.now p) reads.now && (reader == q)))) }
 {
@@ -142,7 +147,12 @@ fn add_all(writers: &FanOut, reads: &[Read], reader: u32, list: &mut Vec<Feed>) 
 }
 
 // Adds the feeds of a driver that reads these bits.
-fn add_span(writers: &FanOut, span: Span, reader: u32, list: &mut Vec<Feed>) -> Result<(), AllocError>
+fn add_span(
+    writers: &FanOut,
+    span: Span,
+    reader: u32,
+    list: &mut Vec<Feed>,
+) -> Result<(), AllocError>
     requires { span.end ≤ length writers.now }
     ensures { OnOk result ((p q : ℕ) → has_feed list.new.items p q ≡ (has_feed list.old.items p q || (writes_among writers.now span.first (span.end - span.first) p && (reader == q)))) }
 {
@@ -157,7 +167,13 @@ fn add_writers(writers: &[u32], reader: u32, list: &mut Vec<Feed>) -> Result<(),
     ensures { OnOk result ((p q : ℕ) → has_feed list.new.items p q ≡ (has_feed list.old.items p q || (has writers.now p && (reader == q)))) }
 {
     for writer in writers {
-        add_once(Feed { source: *writer, reader }, list)?;
+        add_once(
+            Feed {
+                source: *writer,
+                reader,
+            },
+            list,
+        )?;
     }
     Ok(())
 }

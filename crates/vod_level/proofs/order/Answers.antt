@@ -1,5 +1,4 @@
-use Rattle.std.proofs.Common.{◌≡◌, ◌∙◌, ℕ, Bool, List, length, IfOk, OnOk, IfErr, subst}
-use Rattle.vod_level.specs.declared.types.OrderFault.{OrderFault}
+use Rattle.std.proofs.Common.{ℕ, Bool, List, length, IfOk, OnOk, IfErr, subst}
 use Rattle.vod_level.specs.Order.{IsOrder}
 use Rattle.vod_level.specs.Cycle.{IsCycle, IsCause}
 use Rattle.vod_level.proofs.Feeding.{listed_source, listed_reader, same_feeds}

@@ -1,8 +1,6 @@
-use Rattle.std.proofs.Common.{◌≡◌, ◌≢◌, ◌∙◌, ℕ, List, ◌<◌, length, get_or, All, ap, sym, subst, arith}
+use Rattle.std.proofs.Common.{◌≡◌, ◌∙◌, List, ◌<◌, length, get_or, All, ap, sym, subst, arith}
 use Rattle.vod_fanout.specs.declared.Feed.{Feed}
-use Rattle.vod_level.specs.Lists.{has_feed}
-use Rattle.vod_level.specs.Steps.{turned_feeds, IsSteps}
-use Rattle.vod_level.proofs.Steps.{get_or_any}
+use Rattle.vod_level.specs.Steps.{IsSteps}
 use Rattle.vod_level.proofs.Walking.{turned_source, turned_reader, turned_size}
 use Rattle.vod_level.proofs.Circling.{no_chain}
 use Rattle.vod_level.proofs.cycle.cycle_from.Goals as goal

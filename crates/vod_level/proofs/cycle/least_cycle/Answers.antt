@@ -1,4 +1,4 @@
-use Rattle.std.proofs.Common.{◌≡◌, ◌∙◌, ℕ, List, Option, MatchOption, Vec, Global, ◌<◌, get_or, ap, sym, subst}
+use Rattle.std.proofs.Common.{◌≡◌, ◌∙◌, ℕ, List, Option, MatchOption, Vec, Global, get_or, ap, sym, subst}
 use Rattle.vod_level.specs.Cycle.{Chain}
 use Rattle.vod_level.specs.Lists.{has_feed}
 use Rattle.vod_level.specs.Steps.{IsFrom}

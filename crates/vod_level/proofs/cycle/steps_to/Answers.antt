@@ -1,4 +1,4 @@
-use Rattle.std.proofs.Common.{◌≡◌, ◌∙◌, ◌+◌, ◌<◌, ◌≤◌, List, ℕ, length, get_or, refl, ap, sym, subst, arith}
+use Rattle.std.proofs.Common.{◌∙◌, ◌+◌, ◌<◌, length, ap, arith}
 use Rattle.vod_level.proofs.Steps.{get_or_any}
 use Rattle.vod_level.proofs.Taking.{readers_at, inside_all}
 use Rattle.vod_level.proofs.Searching.{search_begins, search_goes, search_end, next_reached, held_none, held_same}

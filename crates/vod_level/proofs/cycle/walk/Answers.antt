@@ -1,11 +1,9 @@
-use Rattle.std.proofs.Common.{◌≡◌, ◌∙◌, ℕ, List, ◌+◌, ◌-◌, ◌<◌, ◌≤◌, Bool, true, length, get_or, refl, ap, sym, subst, arith}
-use Rattle.vod_fanout.specs.FanOut.{readers_of}
-use Rattle.vod_level.specs.Lists.{has, has_feed}
+use Rattle.std.proofs.Common.{◌∙◌, ℕ, List, ◌-◌, ap, sym, subst, arith}
+use Rattle.vod_level.specs.Lists.{has}
 use Rattle.vod_level.specs.Steps.{IsNearest}
 use Rattle.vod_level.proofs.Counts.{has_reader}
-use Rattle.vod_level.proofs.Steps.{get_or_any}
 use Rattle.vod_level.proofs.Taking.{readers_at, inside_all, feed_reader}
-use Rattle.vod_level.proofs.Walking.{walk_start, walk_nearer, walk_step, walk_end}
+use Rattle.vod_level.proofs.Walking.{walk_nearer, walk_step, walk_end}
 use Rattle.vod_level.proofs.cycle.walk.Goals as goal
 
 pub nearest-driver-requires-clause-inside : goal.nearest-driver-requires-clause-inside
@@ -26,7 +24,7 @@ loop-left-preserved c =
     let near = subst P rs c.nearest-driver.ensures in
     record {
       walking = walk_step c.args.feeds.now c.args.count c.args.goal c.args.steps.now c.loop-left.driver c.loop-left.left c.nearest-driver.result c.loop-left.cycle.items c.push-in-loop-left.new.self.items c.loop-left-test.true near
-        c.in_ok-push-2.ensures.items c.loop-left.invariant.walking;
+          c.in_ok-push-2.ensures.items c.loop-left.invariant.walking;
       inside = feed_reader c.args.feeds.now c.args.count c.loop-left.driver c.nearest-driver.result c.requires.readers (sym (has_reader c.args.feeds.now c.loop-left.driver c.nearest-driver.result) ∙ near.among);
     }
 

@@ -1,4 +1,4 @@
-use Rattle.std.proofs.Common.{◌≡◌, ◌∙◌, ℕ, ◌*◌, ◌<◌, List, length, All, ap, sym, subst}
+use Rattle.std.proofs.Common.{◌∙◌, ℕ, ◌*◌, ◌<◌, List, All, ap, sym, subst}
 use Rattle.vod_bits.specs.declared.TheConstants.{WIDTH}
 use Rattle.vod_fanout.specs.declared.Feed.{Feed}
 use Rattle.vod_fanout.specs.FanOut.{fan_out}

@@ -1,11 +1,9 @@
-use Rattle.std.proofs.Common.{◌≡◌, ℕ, ◌+◌, ◌<◌, ◌≤◌, ◌^◌, List, [], length, take, drop, get_or, All, ap, ◌∙◌, sym, subst, arith}
-use Rattle.std.specs.Vec.{vec_len}
+use Rattle.std.proofs.Common.{◌≡◌, ℕ, ◌<◌, List, length, get_or, ap, ◌∙◌, sym, subst, arith}
 use Rattle.vod_fanout.specs.declared.Feed.{Feed}
-use Rattle.vod_fanout.specs.FanOut.{readers_of, fan_out}
-use Rattle.vod_level.specs.Peel.{times, raised, IsReady, Peeling}
-use Rattle.vod_level.specs.Lists.{has}
+use Rattle.vod_fanout.specs.FanOut.{readers_of}
+use Rattle.vod_level.specs.Peel.{times, IsReady, Peeling}
 use Rattle.vod_level.proofs.Steps.{get_or_any}
-use Rattle.vod_level.proofs.Taking.{next_below, readers_inside, readers_at, fed, peel_start, peel_step, peel_end, peel_next, inside_all, get_or_zeros}
+use Rattle.vod_level.proofs.Taking.{next_below, readers_at, fed, peel_start, peel_end, peel_next, inside_all, get_or_zeros}
 use Rattle.vod_level.proofs.peel.peel.Goals as goal
 
 pub index-level-requires : goal.index-level-requires
@@ -87,7 +85,7 @@ loop-next-preserved c =
     let inside = below edges c.args.count c.loop-next.next c.loop-next.ready.items c.loop-next.levels.items c.loop-next.left.items c.index-driver.result.now lt s c.index-driver.ensures in
     let is : c.index-driver.result.now ≡ get_or c.loop-next.ready.items c.loop-next.next 0 = c.index-driver.ensures ∙ get_or_any c.loop-next.ready.items c.loop-next.next c.index-driver.result.now 0 lt in
     let at : c.index-level.result.now ≡ get_or c.loop-next.levels.items c.index-driver.result.now 0 =
-      c.index-level.ensures ∙ get_or_any c.loop-next.levels.items c.index-driver.result.now c.index-level.result.now 0 (omega (arith, s.levels_size)) in
+    c.index-level.ensures ∙ get_or_any c.loop-next.levels.items c.index-driver.result.now c.index-level.result.now 0 (omega (arith, s.levels_size)) in
     let rs = readers_at edges c.args.count c.index-driver.result.now c.in_ok-readers.readers c.of.result.now c.in_ok-readers.ensures.made inside c.of.ensures in
     let rs2 = readers_at edges c.args.count c.index-driver.result.now c.in_ok-readers.readers c.of-in-loop-next.result.now c.in_ok-readers.ensures.made inside c.of-in-loop-next.ensures in
     peel_next edges c.args.count c.loop-next.next c.loop-next.ready.items c.loop-next.levels.items c.loop-next.left.items c.index-driver.result.now c.index-level.result.now c.of.result.now c.of-in-loop-next.result.now

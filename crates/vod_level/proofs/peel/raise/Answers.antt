@@ -1,2 +1,0 @@
-use Rattle.vod_level.proofs.Steps.{raise_step}
-use Rattle.vod_level.proofs.peel.raise.Goals as goal

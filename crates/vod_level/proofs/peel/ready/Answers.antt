@@ -1,4 +1,4 @@
-use Rattle.std.proofs.Common.{ℕ, List, ◌+◌, ap, sym, subst, arith}
+use Rattle.std.proofs.Common.{ℕ, List, ◌+◌, sym, subst, arith}
 use Rattle.vod_level.proofs.Steps.{IsReadyTo, to_start, to_step, to_end}
 use Rattle.vod_level.proofs.peel.ready.Goals as goal
 

@@ -1,5 +1,4 @@
-use Rattle.std.proofs.Common.{◌≡◌, ◌+◌, ◌-◌, ◌<◌, ◌≤◌, length, take, get_or, ap, ◌∙◌, subst, sym, arith, List, ℕ}
-use Rattle.vod_level.specs.Peel.{IsReady}
+use Rattle.std.proofs.Common.{◌≡◌, ◌+◌, ◌-◌, ◌<◌, ◌≤◌, length, take, get_or, ap, ◌∙◌, arith}
 use Rattle.vod_level.proofs.Steps.{is_left, left_step, ready_step, added_front, ready_same}
 use Rattle.vod_level.proofs.peel.release.Goals as goal
 

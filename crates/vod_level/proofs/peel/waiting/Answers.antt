@@ -1,4 +1,4 @@
-use Rattle.std.proofs.Common.{◌≡◌, ◌+◌, ◌<◌, ◌≤◌, [], length, take, get_or, ap, ◌∙◌, sym, arith, length-set}
+use Rattle.std.proofs.Common.{◌≡◌, ◌+◌, ◌<◌, [], length, take, get_or, ◌∙◌, arith, length-set}
 use Rattle.vod_fanout.specs.declared.Feed.{Feed}
 use Rattle.vod_level.specs.Peel.{waits}
 use Rattle.vod_level.proofs.Steps.{waiting_step, waits_few, get_or_any}

@@ -1,4 +1,4 @@
-use Rattle.std.proofs.Common.{◌≡◌, ℕ, ◌+◌, ◌<◌, [], length, take, get_or}
+use Rattle.std.proofs.Common.{◌≡◌, ℕ, ◌<◌, [], length, take, get_or}
 use Rattle.vod_level.specs.Peel.{waits}
 use Rattle.vod_level.proofs.peel.waiting.Given as goal
 
