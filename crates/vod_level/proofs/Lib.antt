@@ -1,0 +1,11 @@
+pub mod Counts
+pub mod Steps
+pub mod Taking
+pub mod Ranking
+pub mod Ordering
+pub mod Writing
+pub mod Feeding
+pub mod Reaching
+pub mod Searching
+pub mod Walking
+pub mod Circling
