@@ -10,7 +10,7 @@ use vod_level::types::{OrderFault, Rank};
 use vod_level::{SIGNALS, order};
 
 /// The drivers of all words, none where one is no driver.
-fn drivers_of(alloc: Global, words: &[&str]) -> Result<Option<Vec<Driver>>, AllocError> {
+pub fn drivers_of(alloc: Global, words: &[&str]) -> Result<Option<Vec<Driver>>, AllocError> {
     let mut list = Vec::new(alloc);
     for word in words {
         match drivers::driver(alloc, word)? {

@@ -2,6 +2,8 @@
 //! it reads, which is `SIGNAL` for a whole signal, `SIGNAL.LOW` for a bit, `SIGNAL.LOW.WIDTH` for bits, `SIGNAL?` for a bit by a value,
 //! or `mMEMORY` for a word by a value. The answer has each driver as `DRIVER@LEVEL`, or the cycle.
 //! - `order DRIVER..`: the order of these drivers;
+//! - `readers SIGNALS MEMORIES DRIVER..`: which drivers can read each of so many signals, and of so many memories;
+//! - `blocks SIGNALS CLOCK[,RESET]..`: which blocks wait for edges of each of so many signals;
 //! - `mesh COUNT REACH`: of so many drivers of one bit, of which each reads the next REACH ones; the first and the last rank;
 //! - `ring COUNT`: of so many drivers, of which each feeds the one before; how long the cycle is, and its first and last driver.
 #![tactic(auto)]
@@ -9,6 +11,7 @@
 mod answers;
 mod drivers;
 mod made;
+mod readers;
 
 use rows_digits::named;
 use std::io;
@@ -17,12 +20,16 @@ use std::io;
 #[derive(Clone, Copy)]
 enum Call {
     Order,
+    Readers,
+    Blocks,
     Mesh,
     Ring,
 }
 
-const CALLS: [(&str, Call); 3] = [
+const CALLS: [(&str, Call); 5] = [
     ("order", Call::Order),
+    ("readers", Call::Readers),
+    ("blocks", Call::Blocks),
     ("mesh", Call::Mesh),
     ("ring", Call::Ring),
 ];
@@ -34,6 +41,8 @@ fn answer(rt: &(impl Print + AllocGlobal), words: &[&str]) -> io::Result<()> {
     };
     match named(first, &CALLS) {
         Some(Call::Order) => answers::order_of(rt, rest),
+        Some(Call::Readers) => readers::answer(rt, rest),
+        Some(Call::Blocks) => readers::answer_blocks(rt, rest),
         Some(Call::Mesh) => answers::mesh(rt, rest),
         Some(Call::Ring) => answers::ring(rt, rest),
         None => rt.print(" unknown row"),

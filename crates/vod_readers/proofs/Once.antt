@@ -74,7 +74,7 @@ not_true true e = absurd (cc)
 -- one source more: seen from another source, or from itself
 step_with : (k : ℕ) (marks : List ℕ) (fs : List Feed) (s n : ℕ) (b new : Bool) → n < length marks → new ≡ (nat_lt s (length marks) && not (is_marked k marks s))
     → readers_of (if new then fs ++ feed s k ∷ [] else fs) n ++ one (not (is_marked k (if new then slice_set marks s (k + 1) else marks) n) && b) k
-      ≡ readers_of fs n ++ one (not (is_marked k marks n) && ((s == n) || b)) k
+    ≡ readers_of fs n ++ one (not (is_marked k marks n) && ((s == n) || b)) k
 step_with k marks fs s n b false inside e = elim (eqb_tells s n) [
   | inl same ↦ (
       let lt : nat_lt s (length marks) ≡ true = lt-ltb s (length marks) (omega (arith, same.1)) in
@@ -91,7 +91,7 @@ step_with k marks fs s n b true inside e =
       | inl same ↦ (
           let set_here : slice_index_or (slice_set marks s (k + 1)) s 0 ≡ k + 1 = get_or-set_same marks s (k + 1) 0 within in
           let now : is_marked k (slice_set marks s (k + 1)) n ≡ true =
-            ap (λ m. slice_index_or (slice_set marks s (k + 1)) m 0 == k + 1) (sym same.1) ∙ ap (λ m. m == k + 1) set_here ∙ same_is (k + 1) in
+          ap (λ m. slice_index_or (slice_set marks s (k + 1)) m 0 == k + 1) (sym same.1) ∙ ap (λ m. m == k + 1) set_here ∙ same_is (k + 1) in
           let clear : not (is_marked k marks n) ≡ true = sym (ap (λ m. not (is_marked k marks m)) same.1) ∙ facts.1 in
           ap (λ ks. ks ++ one (not (is_marked k (slice_set marks s (k + 1)) n) && b) k) more
           ∙ ap (λ c. (readers_of fs n ++ one (s == n) k) ++ one (not c && b) k) now
@@ -136,7 +136,7 @@ at_most_if k marks s true low n = elim (eqb_tells n s) [
         let size = length-set marks s (k + 1) in
         let none : slice_index_or (slice_set marks s (k + 1)) n 0 ≡ 0 = get_or_past (slice_set marks s (k + 1)) n 0 (omega (arith, size, same.1)) in
         omega (arith, none))
-    ]
+  ]
   | inr other ↦ (
       let kept : slice_index_or (slice_set marks s (k + 1)) n 0 ≡ slice_index_or marks n 0 = get_or-set_other marks s n (k + 1) 0 other.1 in
       omega (arith, kept, low n))
@@ -181,7 +181,7 @@ collected f count xs feeds is =
     let size : length (replicate count none) ≡ count = length-replicate count none in
     ap (fan_out count) is
     ∙ each_same (readers_of (feeds_all f 0 (replicate count 0) [] xs)) (readers_from f 0 xs) 0 count
-      (λ i lt. all_once f 0 (replicate count 0) [] xs i (omega (arith, size)) (zeros_low count))
+    (λ i lt. all_once f 0 (replicate count 0) [] xs i (omega (arith, size)) (zeros_low count))
 
 -- their sources are those that there are
 abbrev pub AllInside : ℕ → List Feed → Type 0
@@ -198,7 +198,7 @@ after_inside : (count k : ℕ) (marks : List ℕ) (fs : List Feed) (ss : List �
 after_inside count k marks fs [] same inside = inside
 after_inside count k marks fs (s ∷ ss) same inside =
     after_inside count k (marked k marks s) (fed k marks fs s) ss (marked_length k marks s ∙ same)
-      (fed_if count k s fs (length marks) (is_new k marks s) (not (is_marked k marks s)) refl same inside)
+    (fed_if count k s fs (length marks) (is_new k marks s) (not (is_marked k marks s)) refl same inside)
 
 all_inside : {A : Type 0} (f : A → List ℕ) (count k : ℕ) (marks : List ℕ) (fs : List Feed) (xs : List A) → length marks ≡ count → AllInside count fs → AllInside count (feeds_all f k marks fs xs)
 all_inside f count k marks fs [] same inside = inside

@@ -54,12 +54,14 @@ impl Collected {
     /// The table of these feeds.
     pub fn table(self, alloc: Global, sources: u32) -> Result<FanOut, AllocError>
         requires { All (λ f. f.source < sources) self.feeds.items }
-        ensures { IfOk result (λ t. t ≡ fan_out sources self.feeds.items) }
+        ensures made { IfOk result (λ t. t ≡ fan_out sources self.feeds.items) }
+        ensures size { IfOk result (λ t. length t ≡ sources) }
     {
         if self.feeds.len() > u32::MAX as usize {
             return Err(AllocError);
         }
-        FanOut::new(alloc, sources, self.feeds.as_slice())
+        let table = FanOut::new(alloc, sources, self.feeds.as_slice())?;
+        Ok(table)
     }
 }
 

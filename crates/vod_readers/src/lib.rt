@@ -14,13 +14,10 @@ use vod_eval::add_reads;
 use vod_fanout::FanOut;
 
 /// The drivers that can read each of so many signals, by rising number, each once. It takes time in proportion to what drivers read.
-pub fn signal_readers(
-    alloc: Global,
-    signals: u32,
-    drivers: &[Driver],
-) -> Result<FanOut, AllocError>
+pub fn signal_readers(alloc: Global, signals: u32, drivers: &[Driver]) -> Result<FanOut, AllocError>
     requires { length drivers.now < 2 ^ 25 }
-    ensures { IfOk result (λ t. t ≡ each_from (readers_from signals_of 0 drivers.now) 0 signals) }
+    ensures made { IfOk result (λ t. t ≡ each_from (readers_from signals_of 0 drivers.now) 0 signals) }
+    ensures size { IfOk result (λ t. length t ≡ signals) }
 {
     let mut collected = Collected::new(alloc, signals)?;
     for (k, driver) in drivers.iter().enumerate() {
@@ -38,7 +35,8 @@ pub fn memory_readers(
     drivers: &[Driver],
 ) -> Result<FanOut, AllocError>
     requires { length drivers.now < 2 ^ 25 }
-    ensures { IfOk result (λ t. t ≡ each_from (readers_from memories_of 0 drivers.now) 0 memories) }
+    ensures made { IfOk result (λ t. t ≡ each_from (readers_from memories_of 0 drivers.now) 0 memories) }
+    ensures size { IfOk result (λ t. length t ≡ memories) }
 {
     let mut collected = Collected::new(alloc, memories)?;
     for (k, driver) in drivers.iter().enumerate() {
@@ -52,7 +50,8 @@ pub fn memory_readers(
 /// The blocks that wait for an edge of each of so many signals, by rising number, each once.
 pub fn waiting_blocks(alloc: Global, signals: u32, blocks: &[Block]) -> Result<FanOut, AllocError>
     requires { length blocks.now < 2 ^ 25 }
-    ensures { IfOk result (λ t. t ≡ each_from (readers_from nets_of 0 blocks.now) 0 signals) }
+    ensures made { IfOk result (λ t. t ≡ each_from (readers_from nets_of 0 blocks.now) 0 signals) }
+    ensures size { IfOk result (λ t. length t ≡ signals) }
 {
     let mut collected = Collected::new(alloc, signals)?;
     for (k, block) in blocks.iter().enumerate() {

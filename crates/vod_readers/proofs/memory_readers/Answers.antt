@@ -11,9 +11,9 @@ table-requires c =
     let all = ended memories_of items c.loop-k.k now.marks.items now.feeds.items (feeds_all memories_of 0 (replicate c.args.memories 0) [] items) (omega arith) c.loop-k.invariant in
     collected_inside memories_of c.args.memories items now.feeds.items all
 
-pub returns : goal.returns
-returns c =
+pub returns-clause-made : goal.returns-clause-made
+returns-clause-made c =
     let items = c.args.drivers.now in
     let now = c.loop-k.collected in
     let all = ended memories_of items c.loop-k.k now.marks.items now.feeds.items (feeds_all memories_of 0 (replicate c.args.memories 0) [] items) (omega arith) c.loop-k.invariant in
-    c.in_ok-table.ensures ∙ collected memories_of c.args.memories items now.feeds.items all
+    c.in_ok-table.ensures.made ∙ collected memories_of c.args.memories items now.feeds.items all

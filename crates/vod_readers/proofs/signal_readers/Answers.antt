@@ -11,9 +11,9 @@ table-requires c =
     let all = ended signals_of items c.loop-k.k now.marks.items now.feeds.items (feeds_all signals_of 0 (replicate c.args.signals 0) [] items) (omega arith) c.loop-k.invariant in
     collected_inside signals_of c.args.signals items now.feeds.items all
 
-pub returns : goal.returns
-returns c =
+pub returns-clause-made : goal.returns-clause-made
+returns-clause-made c =
     let items = c.args.drivers.now in
     let now = c.loop-k.collected in
     let all = ended signals_of items c.loop-k.k now.marks.items now.feeds.items (feeds_all signals_of 0 (replicate c.args.signals 0) [] items) (omega arith) c.loop-k.invariant in
-    c.in_ok-table.ensures ∙ collected signals_of c.args.signals items now.feeds.items all
+    c.in_ok-table.ensures.made ∙ collected signals_of c.args.signals items now.feeds.items all

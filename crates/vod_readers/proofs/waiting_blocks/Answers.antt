@@ -11,9 +11,9 @@ table-requires c =
     let all = ended nets_of items c.loop-k.k now.marks.items now.feeds.items (feeds_all nets_of 0 (replicate c.args.signals 0) [] items) (omega arith) c.loop-k.invariant in
     collected_inside nets_of c.args.signals items now.feeds.items all
 
-pub returns : goal.returns
-returns c =
+pub returns-clause-made : goal.returns-clause-made
+returns-clause-made c =
     let items = c.args.blocks.now in
     let now = c.loop-k.collected in
     let all = ended nets_of items c.loop-k.k now.marks.items now.feeds.items (feeds_all nets_of 0 (replicate c.args.signals 0) [] items) (omega arith) c.loop-k.invariant in
-    c.in_ok-table.ensures ∙ collected nets_of c.args.signals items now.feeds.items all
+    c.in_ok-table.ensures.made ∙ collected nets_of c.args.signals items now.feeds.items all
