@@ -1,6 +1,5 @@
 -- Feeds that are collected with marks give each source its readers, each once.
 use Rattle.std.proofs.Common.{◌≡◌, ◌≢◌, ℕ, zero, suc, ◌+◌, ◌<◌, ◌≤◌, ◌==◌, nat_lt, Bool, true, false, not, ◌&&◌, ◌||◌, if◌then◌else◌, List, [], ◌∷◌, ◌++◌, length, drop, replicate, get_or, slice_index_or, slice_set, refl, sym, subst, ◌∙◌, ap, arith, inl, inr, add-one, drop-cons, append_assoc, All}
-use Rattle.std.specs.List.{list_any}
 use Rattle.std.proofs.Math.ListN.{set, drop_of_length-le}
 use Rattle.std.proofs.lemmas.Bool.{cases_lt, lt-ltb, ltb-true}
 use Rattle.std.proofs.lemmas.Bool.Decides.{eqb_tells}
@@ -9,7 +8,7 @@ use Rattle.std.proofs.lemmas.List.Elements.{All-nil, All-push}
 use Rattle.vod_fanout.specs.FanOut.{readers_of, each_from, fan_out}
 use Rattle.vod_fanout.specs.declared.Feed.{Feed}
 use Rattle.vod_readers.specs.Readers.{has, readers_from}
-use Rattle.vod_readers.specs.Collected.{feed, is_new, marked, fed, marks_after, feeds_after, marks_all, feeds_all}
+use Rattle.vod_readers.specs.Collected.{feed, is_new, marked, fed, marks_after, feeds_after, feeds_all}
 
 -- an element that a loop has come to, and its end
 pub drop_item : {A : Type 0} (xs : List A) (i : ℕ) (x : A) → x ≡ get_or xs i x → i < length xs → drop i xs ≡ x ∷ drop (i + 1) xs

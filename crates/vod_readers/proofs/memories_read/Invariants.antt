@@ -1,4 +1,4 @@
-use Rattle.std.proofs.Common.{◌≡◌, ◌++◌, [], drop, take, replicate, flat_map}
+use Rattle.std.proofs.Common.{◌≡◌, ◌++◌, drop, flat_map}
 use Rattle.vod_design.specs.Reads.{reads}
 use Rattle.vod_readers.specs.Readers.{read_memory}
 use Rattle.vod_readers.proofs.memories_read.Given as goal

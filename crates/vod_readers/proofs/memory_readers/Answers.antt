@@ -1,4 +1,4 @@
-use Rattle.std.proofs.Common.{◌≡◌, ◌∙◌, [], replicate, arith}
+use Rattle.std.proofs.Common.{◌∙◌, [], replicate, arith}
 use Rattle.vod_readers.specs.Collected.{feeds_all}
 use Rattle.vod_readers.specs.Readers.{memories_of}
 use Rattle.vod_readers.proofs.Once.{collected, collected_inside, ended}

@@ -1,4 +1,4 @@
-use Rattle.std.proofs.Common.{◌≡◌, ◌++◌, [], drop, take, replicate, flat_map}
+use Rattle.std.proofs.Common.{◌≡◌, ◌++◌, drop, flat_map}
 use Rattle.vod_design.specs.Reads.{reads}
 use Rattle.vod_readers.specs.Readers.{read_signal}
 use Rattle.vod_readers.proofs.signals_read.Given as goal

@@ -1,4 +1,4 @@
-use Rattle.std.proofs.Common.{◌≡◌, ◌++◌, [], drop, take, replicate, flat_map}
+use Rattle.std.proofs.Common.{◌≡◌, [], drop, replicate}
 use Rattle.vod_readers.specs.Collected.{feeds_all}
 use Rattle.vod_readers.specs.Readers.{nets_of}
 use Rattle.vod_readers.proofs.waiting_blocks.Given as goal

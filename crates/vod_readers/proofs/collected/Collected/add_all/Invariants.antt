@@ -1,4 +1,4 @@
-use Rattle.std.proofs.Common.{◌≡◌, ◌++◌, [], drop, take, replicate, flat_map}
+use Rattle.std.proofs.Common.{◌≡◌, drop}
 use Rattle.vod_readers.specs.Collected.{marks_after, feeds_after}
 use Rattle.vod_readers.proofs.collected.Collected.add_all.Given as goal
 
