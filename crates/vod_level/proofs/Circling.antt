@@ -8,6 +8,7 @@ use Rattle.vod_level.specs.Lists.{has, has_feed}
 use Rattle.vod_level.specs.Peel.{absent, IsPeeled}
 use Rattle.vod_level.specs.Steps.{turned_feeds, IsSteps, IsWalk, IsRound, IsFrom}
 use Rattle.vod_level.proofs.Counts.{has_cases, absent_new}
+use Rattle.vod_level.proofs.Ordering.{cycle_stuck}
 use Rattle.vod_level.proofs.Taking.{get_or_past, feed_source}
 use Rattle.vod_level.proofs.Walking.{has_turned}
 
@@ -152,3 +153,17 @@ none_at_all fs n end q levels left sources s h all none =
     let c = stuck_cycle fs n levels left q s h in
     let below = cycle_below fs n c.0 c.1 sources c.2 in
     none c.0 (omega arith) c.1 c.2
+
+-- a chain the other way
+chain_turned : (fs : List Feed) (p : ℕ) (ds : List ℕ) (q : ℕ) → Chain (has_feed fs) p ds q → (es : List ℕ) × Chain (has_feed (turned_feeds fs)) q es p
+chain_turned fs p [] q c = ([], has_turned fs p q ∙ c)
+chain_turned fs p (d ∷ ds) q c =
+    let rest = chain_turned fs d ds q c.1 in
+    (rest.0 ++ d ∷ [], chain_join (has_feed (turned_feeds fs)) q rest.0 d [] p rest.1 (has_turned fs p d ∙ c.0))
+
+-- who feeds none that is stuck is on no cycle
+pub no_chain_ahead : (fs turned : List Feed) (n goal : ℕ) (levels left : List ℕ) → turned ≡ turned_feeds fs → IsPeeled turned n levels left → get_or left goal 0 ≡ 0 → (ds : List ℕ) → Chain (has_feed fs) goal ds goal → ⊥
+no_chain_ahead fs turned n goal levels left e s none ds c =
+    let P : List Feed → Type 0 = λ l. IsPeeled l n levels left in
+    let back = chain_turned fs goal ds goal c in
+    cycle_stuck (turned_feeds fs) n levels left (subst P e s) goal back.0 back.1 none

@@ -5,7 +5,7 @@ ghost use Rattle.vod_level.specs.Lists.{has, has_feed, feed};
 ghost use Rattle.vod_level.specs.Peel.{IsPeeled};
 ghost use Rattle.vod_level.specs.Steps.{reached_in, steps_with, reached_with, turned_feeds, IsReached, IsSteps, IsNearest, IsRound, IsFrom};
 
-use crate::peel::Peeled;
+use crate::peel::{Peeled, peel};
 use std::alloc::{AllocError, Global};
 use vod_fanout::{FanOut, Feed};
 
@@ -25,8 +25,12 @@ pub fn least_cycle(
     ensures { IfOk result (λ v. IsLeastCycle (has_feed feeds.now) v.items) }
 {
     let turned = turned(alloc, feeds)?;
+    let ahead = peel(alloc, count, turned.as_slice())?;
     for driver in 0..count {
         if peeled.left.as_slice()[driver as usize] == 0 {
+            continue;
+        }
+        if ahead.left.as_slice()[driver as usize] == 0 {
             continue;
         }
         if let Some(cycle) = cycle_from(alloc, count, feeds, turned.as_slice(), driver)? {
