@@ -1,0 +1,10 @@
+mod Cuts
+mod Emit
+mod Gates
+mod Identical
+mod Layers
+mod Lists
+mod Loop
+mod Value
+mod Whole
+mod Works
