@@ -1,9 +1,9 @@
 //! The parts of a design as lines.
 
-use std::io;
+use std::io::{self, ErrorKind};
 use vod_design::{
-    Block, Class, Design, Driver, Edge, Function, Image, Initial, InitialTarget, Input, Named,
-    PartTarget, Ram, Scope, Signal, SizedExpr, SizedKind, Statement, Unit, Variable,
+    Block, Class, Design, Driver, Edge, Function, Image, Initial, InitialTarget, Input, Memory,
+    Named, PartTarget, Ram, Scope, Signal, SizedExpr, SizedKind, Statement, Unit, Variable,
 };
 
 /// Prints the bytes of a name.
@@ -216,6 +216,8 @@ pub fn design(rt: &(impl Print + AllocGlobal), design: &Design) -> io::Result<()
     ranks(rt, "ranked", design.ranked())?;
     let places = design.ranks(rt.alloc())?;
     ranks(rt, "ranks", places.as_slice())?;
-    let blank = Image::blank(rt.alloc(), design)?;
-    image(rt, design, &blank)
+    match Image::blank(rt.alloc(), design) {
+        Ok(blank) => image(rt, design, &blank),
+        Err(Memory) => Err(ErrorKind::OutOfMemory.into()),
+    }
 }

@@ -2,7 +2,7 @@
 use sqlite_items::{Boxed, Items};
 use std::alloc::{AllocError, Global};
 use vod_bits::Bits;
-use vod_design::{Driver, Memory, Named, Place, Places, SizedExpr, SizedKind, Variable};
+use vod_design::{Driver, NamedMemory, Named, Place, Places, SizedExpr, SizedKind, Variable};
 
 /// Lets go of a part of a tree.
 fn let_go<T: Drop>(_value: T) {}
@@ -39,7 +39,7 @@ fn read(alloc: Global, text: &str) -> Result<Option<SizedExpr>, AllocError> {
             return Ok(None);
         };
         let at = index(alloc)?;
-        let memory = Memory { number, width: 1 };
+        let memory = NamedMemory { number, width: 1 };
         return Ok(Some(sized(SizedKind::WordIndex(memory, 0, at))));
     }
     if let Some(number) = text.strip_suffix('?') {

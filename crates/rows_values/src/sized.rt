@@ -15,7 +15,7 @@ use std::alloc::{AllocError, Global};
 use std::io;
 use vod_bits::Bits;
 use vod_design::{
-    Body, CaseItem, Function, GateOp, Locals, Memory, Named, Part, PartTarget, SizedExpr,
+    Body, CaseItem, Function, GateOp, Locals, NamedMemory, Named, Part, PartTarget, SizedExpr,
     SizedKind, Statement, Variable,
 };
 use vod_eval::{Lists, call_rooms, expr_room, value_of};
@@ -88,9 +88,9 @@ fn values(alloc: Global, digits: &[&str]) -> Result<Items<Four>, AllocError> {
 }
 
 /// A memory with the number 0 that has these words.
-fn memory(words: &Items<Four>) -> Memory {
+fn memory(words: &Items<Four>) -> NamedMemory {
     let width = words.as_slice().first().map_or(1, |word| width(*word));
-    Memory { number: 0, width }
+    NamedMemory { number: 0, width }
 }
 
 /// Prints the value of an expression.
@@ -123,7 +123,7 @@ fn print_last(
 fn word(
     alloc: Global,
     context: u8,
-    memory: Memory,
+    memory: NamedMemory,
     least: u16,
     index: u8,
 ) -> Result<SizedExpr, AllocError> {

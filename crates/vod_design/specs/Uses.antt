@@ -2,7 +2,7 @@
 use Rattle.std.specs.Prelude.{ℕ, Bool, true, false, List, [], ◌∷◌, ◌++◌, length, flat_map}
 use Rattle.std.specs.List.{list_all}
 use Rattle.vod_design.specs.declared.sized.GateOp.{GateOp}
-use Rattle.vod_design.specs.declared.sized.Memory.{Memory}
+use Rattle.vod_design.specs.declared.sized.NamedMemory.{NamedMemory}
 use Rattle.vod_design.specs.declared.sized.Named.{Named}
 use Rattle.vod_design.specs.declared.sized.SizedExpr.{SizedExpr}
 use Rattle.vod_design.specs.declared.sized.SizedKind.TheOpen.{SizedKind-F, SizedExpr-F}
@@ -27,8 +27,8 @@ pub data Use : Type 0 where
   Whole : Named → Use
   Bits : Named → ℕ → ℕ → Use
   BitAt : Named → ℕ → IndexSize → Use
-  Word : Memory → ℕ → Use
-  WordAt : Memory → ℕ → IndexSize → Use
+  Word : NamedMemory → ℕ → Use
+  WordAt : NamedMemory → ℕ → IndexSize → Use
   Called : ℕ → ℕ → Use
   Inputs : GateOp → ℕ → Use
 

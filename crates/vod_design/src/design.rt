@@ -38,8 +38,8 @@ pub struct Origins {
     pub drivers: Vec<DriverForm>,
 }
 
-/// A flat design that keeps the rules on declarations, but wasn't judged by the others: each input counts as data, and the two
-/// events of a block stand as they were written.
+/// A flat design that keeps the rules on declarations, but wasn't judged by the others, which settle what each input is for, and
+/// which event of a block is its clock.
 #[derive(Drop)]
 pub struct Draft {
     pub signals: Vec<Signal>,

@@ -4,7 +4,7 @@ ghost use Rattle.std.specs.List.{list_all};
 ghost use Rattle.vod_design.specs.Image.{register_widths, word_widths, data_widths, edge_inputs, data_inputs, is_data, starts_below, is_empty, are_below, start_below, are_edges, fits, blank};
 ghost use Rattle.vod_design.specs.Netlist.{Netlist, width_in, words_in};
 
-use crate::{Class, Design, Input, Ram, Signal};
+use crate::{Class, Design, Input, Memory, Ram, Signal};
 use std::alloc::{AllocError, Global};
 use std::marker::Model;
 
@@ -98,7 +98,7 @@ impl Image {
     }
 
     /// An image in which each number is 0 and no edge value is given. It fits the design.
-    pub fn blank(alloc: Global, design: &Design) -> Result<Image, AllocError>
+    pub fn blank(alloc: Global, design: &Design) -> Result<Image, Memory>
         ensures { IfOk result (λ i. i ≡ blank design.now.netlist) }
     {
         design.keeps_rules();

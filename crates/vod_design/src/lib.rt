@@ -17,9 +17,9 @@ pub use parts::{
     Ram, Scope, Signal, Unit,
 };
 pub use read::Read;
-pub use refusal::{Rule, Which};
+pub use refusal::{Memory, Rule, Which};
 pub use sized::{
-    BinaryOp, ComparisonOp, GateOp, LogicalOp, Memory, Named, ReductionOp, ShiftOp, SizedExpr,
+    BinaryOp, ComparisonOp, GateOp, LogicalOp, Named, NamedMemory, ReductionOp, ShiftOp, SizedExpr,
     SizedKind, UnaryOp, Variable, value_forgets_places, value_hangs_on_reads,
 };
 pub use statement::{

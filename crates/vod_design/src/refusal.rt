@@ -1,8 +1,25 @@
-//! Why a source is no design: the rules that it may break, and the limits that it may pass.
+//! Why there is no design: the rules that a source may break, the limits that it may pass, and want of memory.
 ghost use Rattle.std.specs.Prelude.{◌≡◌};
 ghost use Rattle.vod_design.specs.Limits.{most};
 
+use std::alloc::AllocError;
 use std::fmt;
+
+/// There was no memory.
+#[derive(Clone, Copy, PartialEq, Eq)]
+pub struct Memory;
+
+impl fmt::Display for Memory {
+    fn fmt<W: fmt::Write>(&self, f: &mut fmt::Formatter<W>) -> fmt::Result {
+        f.write_str("there was no memory")
+    }
+}
+
+impl From<AllocError> for Memory {
+    fn from(_error: AllocError) -> Memory {
+        Memory
+    }
+}
 
 /// A rule that each design keeps. `L` is of tokens and `G` of the grammar; the others are numbered in the order in which they are
 /// judged.

@@ -27,7 +27,7 @@ pub enum Named {
 
 /// A memory as an expression sees it: its number, and how many bits each of its words has (4.9).
 #[derive(Clone, Copy)]
-pub struct Memory {
+pub struct NamedMemory {
     pub number: u32,
     pub width: u8,
 }
@@ -155,9 +155,9 @@ pub enum SizedKind {
     /// A bit select by a value: the index of the lowest bit, and the index (5.2.1).
     Index(Named, u16, Boxed<SizedExpr>),
     /// A word of a memory at a constant index: the memory, and the word's place from the least index up (5.2.2).
-    Word(Memory, u16),
+    Word(NamedMemory, u16),
     /// A word by a value: the memory, its least index, and the index (5.2.2).
-    WordIndex(Memory, u16, Boxed<SizedExpr>),
+    WordIndex(NamedMemory, u16, Boxed<SizedExpr>),
     /// `-` and `~`
     Unary(UnaryOp, Boxed<SizedExpr>),
     /// `+ - * & | ^ ~^`

@@ -8,7 +8,7 @@ use Rattle.vod_tree.specs.declared.expr.UnaryOp.TheVariants as sign
 use Rattle.vod_design.specs.declared.sized.ShiftOp.{ShiftOp}
 use Rattle.vod_design.specs.declared.sized.SizedExpr.{SizedExpr}
 use Rattle.vod_design.specs.declared.sized.SizedKind.{SizedKind}
-use Rattle.vod_design.specs.declared.sized.Memory.{Memory}
+use Rattle.vod_design.specs.declared.sized.NamedMemory.{NamedMemory}
 use Rattle.vod_design.specs.declared.sized.Named.{Named}
 use Rattle.vod_design.specs.declared.sized.ComparisonOp.{ComparisonOp}
 use Rattle.vod_design.specs.declared.sized.LogicalOp.{LogicalOp}
@@ -188,10 +188,10 @@ fixed_Select n x y = fixed_by (kind.Select n x y) (λ o c h. absurd (cc)) (λ o 
 pub fixed_Index : (n : Named) (x : ℕ) (e : SizedExpr) → IsFixed (kind.Index n x e)
 fixed_Index n x e = fixed_by (kind.Index n x e) (λ o c h. absurd (cc)) (λ o c d h. absurd (cc)) (λ o c d h. absurd (cc)) (λ o c d h. absurd (cc))
 
-pub fixed_Word : (m : Memory) (p : ℕ) → IsFixed (kind.Word m p)
+pub fixed_Word : (m : NamedMemory) (p : ℕ) → IsFixed (kind.Word m p)
 fixed_Word m p = fixed_by (kind.Word m p) (λ o c h. absurd (cc)) (λ o c d h. absurd (cc)) (λ o c d h. absurd (cc)) (λ o c d h. absurd (cc))
 
-pub fixed_WordIndex : (m : Memory) (x : ℕ) (e : SizedExpr) → IsFixed (kind.WordIndex m x e)
+pub fixed_WordIndex : (m : NamedMemory) (x : ℕ) (e : SizedExpr) → IsFixed (kind.WordIndex m x e)
 fixed_WordIndex m x e = fixed_by (kind.WordIndex m x e) (λ o c h. absurd (cc)) (λ o c d h. absurd (cc)) (λ o c d h. absurd (cc)) (λ o c d h. absurd (cc))
 
 pub fixed_Comparison : (op : ComparisonOp) (x y : SizedExpr) → IsFixed (kind.Comparison op x y)

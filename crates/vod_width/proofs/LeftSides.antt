@@ -12,7 +12,7 @@ use Rattle.vod_tree.specs.declared.statement.LvalKind.{LvalKind}
 use Rattle.vod_tree.specs.declared.statement.LvalKind.TheOpen.{LvalKind-F}
 use Rattle.vod_tree.specs.declared.statement.LvalKind.TheFolds.{fold-LvalKind, map-LvalKind, fold-roll-LvalKind, fold_out-Lval}
 use Rattle.vod_tree.specs.declared.statement.LvalKind.TheViews.{roll-LvalKind}
-use Rattle.vod_design.specs.declared.sized.Memory.{Memory}
+use Rattle.vod_design.specs.declared.sized.NamedMemory.{NamedMemory}
 use Rattle.vod_design.specs.declared.sized.Named.{Named}
 use Rattle.vod_design.specs.declared.sized.SizedExpr.{SizedExpr}
 use Rattle.vod_design.specs.declared.sized.SizedKind.{SizedKind}
@@ -43,7 +43,7 @@ pub target_at : (k : SizedKind) (x : Layer) → k ≡ roll-SizedKind x → targe
 target_at k x e = ap target_of (ap out-SizedKind e ∙ out-roll-SizedKind x)
 
 none_of : (k : SizedKind) (x : Layer) → k ≡ roll-SizedKind x → ((n : Named) → k ≡ kind.Name n → ⊥) → ((n : Named) (l c : ℕ) → k ≡ kind.Select n l c → ⊥) → ((n : Named) (l : ℕ) (e : SizedExpr) → k ≡ kind.Index n l e → ⊥)
-    → ((m : Memory) (p : ℕ) → k ≡ kind.Word m p → ⊥) → ((m : Memory) (l : ℕ) (e : SizedExpr) → k ≡ kind.WordIndex m l e → ⊥) → target_of x ≡ None
+    → ((m : NamedMemory) (p : ℕ) → k ≡ kind.Word m p → ⊥) → ((m : NamedMemory) (l : ℕ) (e : SizedExpr) → k ≡ kind.WordIndex m l e → ⊥) → target_of x ≡ None
 none_of k (SizedKind-F.Name n) e a b c d f = absurd (a n (e ∙ rolls-Name n))
 none_of k (SizedKind-F.Select n l w) e a b c d f = absurd (b n l w (e ∙ rolls-Select n l w))
 none_of k (SizedKind-F.Index n l i) e a b c d f = absurd (c n l i (e ∙ rolls-Index n l i))
@@ -52,7 +52,7 @@ none_of k (SizedKind-F.WordIndex m l i) e a b c d f = absurd (f m l i (e ∙ rol
 none_of k _ e a b c d f = refl
 
 pub no_target : (k : SizedKind) → ((n : Named) → k ≡ kind.Name n → ⊥) → ((n : Named) (l c : ℕ) → k ≡ kind.Select n l c → ⊥) → ((n : Named) (l : ℕ) (e : SizedExpr) → k ≡ kind.Index n l e → ⊥)
-    → ((m : Memory) (p : ℕ) → k ≡ kind.Word m p → ⊥) → ((m : Memory) (l : ℕ) (e : SizedExpr) → k ≡ kind.WordIndex m l e → ⊥) → None ≡ target_of (out-SizedKind k)
+    → ((m : NamedMemory) (p : ℕ) → k ≡ kind.Word m p → ⊥) → ((m : NamedMemory) (l : ℕ) (e : SizedExpr) → k ≡ kind.WordIndex m l e → ⊥) → None ≡ target_of (out-SizedKind k)
 no_target k a b c d f = sym (none_of k (out-SizedKind k) (sym (roll-out-SizedKind k)) a b c d f)
 
 -- parts with a fault beside them

@@ -7,7 +7,7 @@ use Rattle.vod_bits.specs.declared.TheConstants.{WIDTH}
 use Rattle.vod_tree.specs.declared.expr.Expr.{Expr}
 use Rattle.vod_tree.specs.declared.expr.ExprKind.TheOpen.{ExprKind-F, Expr-F}
 use Rattle.vod_tree.specs.declared.expr.ExprKind.TheFolds.{fold-Expr, fold-ExprKind}
-use Rattle.vod_design.specs.declared.sized.Memory.{Memory}
+use Rattle.vod_design.specs.declared.sized.NamedMemory.{NamedMemory}
 use Rattle.vod_design.specs.declared.sized.Named.{Named}
 use Rattle.vod_design.specs.declared.sized.SizedExpr.{SizedExpr}
 use Rattle.vod_design.specs.declared.statement.Size.{Size}
@@ -64,7 +64,7 @@ abbrev pub in_ram : WordArray → ℕ → Bool
 in_ram m n = nat_le m.low n && nat_le n m.high
 
 -- a memory as expressions see it
-abbrev pub memory : WordArray → Memory
+abbrev pub memory : WordArray → NamedMemory
 memory m = record { number = m.number; width = m.width }
 
 -- whether an index is inside some range (A range's bounds are 0 to 65,535)

@@ -14,7 +14,7 @@ use crate::number::{above, byte, two_bytes};
 use sqlite_items::Boxed;
 use std::alloc::{AllocError, Global};
 use vod_bits::{Bits, Word};
-use vod_design::{Memory, Named, SizedExpr, SizedKind};
+use vod_design::{NamedMemory, Named, SizedExpr, SizedKind};
 use vod_operand::{
     Fault, Looked, WIDE, both_hold, fault_if, fault_of, fit_own, fit_own_pair, join, tree_unless,
     unplaced, unsized_node,
@@ -168,10 +168,10 @@ fn bit_index_tree(
 }
 
 // A memory as expressions see it.
-fn memory(m: &WordArray) -> Memory
+fn memory(m: &WordArray) -> NamedMemory
     ensures { result ≡ memory m.now }
 {
-    Memory {
+    NamedMemory {
         number: m.number,
         width: m.width,
     }

@@ -1,5 +1,5 @@
 use Rattle.std.proofs.Common.{min, false, refl, ◌∙◌, ap, subst, Some}
-use Rattle.vod_design.specs.declared.sized.Memory.{Memory}
+use Rattle.vod_design.specs.declared.sized.NamedMemory.{NamedMemory}
 use Rattle.vod_design.specs.declared.sized.SizedKind.TheVariants as kind
 use Rattle.vod_operand.specs.Found.{tree_unless}
 use Rattle.vod_width.specs.Sizes.{look_index}
@@ -18,4 +18,4 @@ returns c = λ y s constant.
     let found = subst P c.in_ram.ensures.limit (c.in_ok-n.ensures y s) in
     sees_of c.unplaced.result (look_index 0 (Some (stands.Ram m)) y) c.capped.result false false c.tree_unless-tree.result c.unplaced.ensures refl c.capped.ensures refl refl
     (word_tree m y n.number c.two_bytes-place.result n.fault c.tree_unless-tree.result found.number found.fault (c.two_bytes-place.ensures ∙ ap (λ k. min k 65535) c.above.ensures) c.in_ram.ensures.small
-    (c.tree_unless-tree.ensures ∙ ap (λ (k : Memory). tree_unless n.fault (kind.Word k c.two_bytes-place.result)) c.memory.ensures) constant)
+    (c.tree_unless-tree.ensures ∙ ap (λ (k : NamedMemory). tree_unless n.fault (kind.Word k c.two_bytes-place.result)) c.memory.ensures) constant)
