@@ -2,7 +2,7 @@
 use sqlite_items::{Boxed, Items};
 use std::alloc::{AllocError, Global};
 use vod_design::{
-    BinaryOp, ComparisonOp, GateOp, LogicalOp, Memory, Named, ReductionOp, ShiftOp, SizedExpr,
+    BinaryOp, ComparisonOp, GateOp, LogicalOp, NamedMemory, Named, ReductionOp, ShiftOp, SizedExpr,
     SizedKind, UnaryOp, Variable,
 };
 
@@ -115,7 +115,7 @@ fn indexed(alloc: Global) -> Tree {
 
 /// `{m[s0[1:0]], m[1]}` of a memory with these signals' values
 fn words(alloc: Global) -> Tree {
-    let memory = Memory {
+    let memory = NamedMemory {
         number: 0,
         width: BITS,
     };

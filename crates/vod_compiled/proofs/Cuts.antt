@@ -1,5 +1,5 @@
 -- Bits at a size, and cut.
-use Rattle.std.proofs.Common.{◌≡◌, ℕ, zero, suc, ◌+◌, ◌-◌, ◌≤◌, ◌<◌, min, Bool, true, false, List, [], ◌∷◌, ◌++◌, length, drop, replicate, refl, sym, ◌∙◌, ap, arith, inl, inr}
+use Rattle.std.proofs.Common.{◌≡◌, ℕ, zero, suc, ◌+◌, ◌-◌, ◌≤◌, ◌<◌, min, max, Bool, ◌&&◌, true, false, List, [], ◌∷◌, ◌++◌, length, drop, replicate, refl, sym, ◌∙◌, ap, arith, inl, inr}
 use Rattle.std.proofs.lemmas.List.{append-nil, length-append, length-drop, replicate-append-replicate, drop-drop, drop-append-le, take_all}
 use Rattle.std.proofs.Math.Seq.{drop-append_seam}
 use Rattle.std.proofs.lemmas.Bool.{cases_lt}
@@ -7,8 +7,9 @@ use Rattle.vod_bits.specs.Bit.{Bit, B0}
 use Rattle.vod_bits.specs.Value.{resize_bits, slice_bits, upper_bit}
 use Rattle.vod_bits.specs.Lengths.{resize_length}
 use Rattle.vod_bits.specs.declared.TheConstants.{WIDTH}
-use Rattle.vod_design.specs.Values.{bounded, at_size, unknown, select_bits}
-use Rattle.vod_design.specs.Eval.{repeated}
+use Rattle.vod_design.specs.Values.{Operand, bounded, at_size, unknown, select_bits}
+use Rattle.vod_design.specs.Eval.{repeated, compared, comparison_bit}
+use Rattle.vod_design.specs.declared.sized.ComparisonOp.{ComparisonOp}
 use Rattle.vod_eval.specs.Pieces.{lowest}
 use Rattle.vod_compiled.specs.Steps.{replicated}
 
@@ -144,3 +145,21 @@ pub at_size_held : (width : ℕ) (signed other : Bool) (bits : List Bit) → wid
 at_size_held width signed other bits is some within =
     let e : length bits ≡ bounded width = omega arith in
     sym (ap (at_size width signed) (at_size_same width other bits e) ∙ at_size_same width signed bits e)
+
+pub at_size_ready : (width : ℕ) (signed : Bool) (bits : List Bit) → width ≡ length bits → 1 ≤ length bits → length bits ≤ WIDTH → bits ≡ at_size width signed bits
+at_size_ready width signed bits is some within =
+    let e : length bits ≡ bounded width = omega arith in
+    sym (at_size_same width signed bits e)
+
+-- operands of one size are compared as they are
+pub compared_alike : (o : ComparisonOp) (a b : Operand) → length a.bits ≡ length b.bits → 1 ≤ length a.bits → length a.bits ≤ WIDTH
+    → compared o a b ≡ comparison_bit o (a.signed && b.signed) a.bits b.bits
+unfolding compared
+compared_alike o a b alike some within =
+    let e : length a.bits ≡ bounded (max (length a.bits) (length b.bits)) = omega arith in
+    let f : length b.bits ≡ bounded (max (length a.bits) (length b.bits)) = omega arith in
+    ap (λ xs. comparison_bit o (a.signed && b.signed) xs (at_size (max (length a.bits) (length b.bits)) (a.signed && b.signed) b.bits)) (at_size_same _ (a.signed && b.signed) a.bits e)
+    ∙ ap (comparison_bit o (a.signed && b.signed) a.bits) (at_size_same _ (a.signed && b.signed) b.bits f)
+
+pub joined_whole : (xs ys : List Bit) → length xs + length ys ≤ WIDTH → xs ++ ys ≡ lowest (xs ++ ys)
+joined_whole xs ys h = let e : length (xs ++ ys) ≤ WIDTH = omega (arith, length-append xs ys) in sym (lowest_whole (xs ++ ys) e)

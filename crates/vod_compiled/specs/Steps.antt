@@ -73,28 +73,34 @@ where_false B1 a b = b
 where_false BX a b = b
 where_false BZ a b = b
 
+-- what a step puts into its cell, where it puts its value there alone
+abbrev pub op_bits : World → Cells → Step → Op → List Bit
+op_bits w cells s (op.Copy a) = input_bits w cells a
+op_bits w cells s (op.Select x low count) = select_bits w.fill low (bounded count) (source_bits w cells x)
+op_bits w cells s (op.Index x least a) = bit_at_place w.fill (source_bits w cells x) (index_place least (input_bits w cells a))
+op_bits w cells s (op.Word m place) = word_or_x w.fill (bounded m.width) (w.values.word m.number place)
+op_bits w cells s (op.WordIndex m least a) = word_or_x w.fill (bounded m.width) (word_at w.values m.number (index_place least (input_bits w cells a)))
+op_bits w cells s (op.Unary o a) = unary_bits o (at_step w cells s a)
+op_bits w cells s (op.Binary o a b) = binary_bits o (at_step w cells s a) (at_step w cells s b)
+op_bits w cells s (op.Comparison o a b) = compared o (taken w cells a) (taken w cells b) ∷ []
+op_bits w cells s (op.LogicalNot a) = not_bit (truth_of w cells a) ∷ []
+op_bits w cells s (op.Logical o a b) = logical_bit o (truth_of w cells a) (truth_of w cells b) ∷ []
+op_bits w cells s (op.Reduction o a) = reduction_bit o (input_bits w cells a) ∷ []
+op_bits w cells s (op.Shift o a amount) = shift_bits o s.signed (input_bits w cells amount) (at_step w cells s a)
+op_bits w cells s (op.Join a) = lowest (value_at w.fill cells s.to ++ input_bits w cells a)
+op_bits w cells s (op.Replicate count a) = replicated count (input_bits w cells a)
+op_bits w cells s (op.GateStart o) = gate_start w.fill o ∷ []
+op_bits w cells s (op.GateInput o a) = gate_table o (upper_bit (value_at w.fill cells s.to)) (upper_bit (at_size 1 false (input_bits w cells a))) ∷ []
+op_bits w cells s (op.GateEnd o) = gate_output o (upper_bit (value_at w.fill cells s.to)) ∷ []
+op_bits w cells s (op.Second t b) = second_bits w cells s t b
+op_bits w cells s (op.Test t n) = w.fill ∷ []
+op_bits w cells s (op.First t a n) = w.fill ∷ []
+
 -- the cells after a step
 abbrev pub after_op : World → Cells → Step → Op → Cells
-after_op w cells s (op.Copy a) = put cells s.to (input_bits w cells a)
-after_op w cells s (op.Select x low count) = put cells s.to (select_bits w.fill low (bounded count) (source_bits w cells x))
-after_op w cells s (op.Index x least a) = put cells s.to (bit_at_place w.fill (source_bits w cells x) (index_place least (input_bits w cells a)))
-after_op w cells s (op.Word m place) = put cells s.to (word_or_x w.fill (bounded m.width) (w.values.word m.number place))
-after_op w cells s (op.WordIndex m least a) = put cells s.to (word_or_x w.fill (bounded m.width) (word_at w.values m.number (index_place least (input_bits w cells a))))
-after_op w cells s (op.Unary o a) = put cells s.to (unary_bits o (at_step w cells s a))
-after_op w cells s (op.Binary o a b) = put cells s.to (binary_bits o (at_step w cells s a) (at_step w cells s b))
-after_op w cells s (op.Comparison o a b) = put cells s.to (compared o (taken w cells a) (taken w cells b) ∷ [])
-after_op w cells s (op.LogicalNot a) = put cells s.to (not_bit (truth_of w cells a) ∷ [])
-after_op w cells s (op.Logical o a b) = put cells s.to (logical_bit o (truth_of w cells a) (truth_of w cells b) ∷ [])
-after_op w cells s (op.Reduction o a) = put cells s.to (reduction_bit o (input_bits w cells a) ∷ [])
-after_op w cells s (op.Shift o a amount) = put cells s.to (shift_bits o s.signed (input_bits w cells amount) (at_step w cells s a))
-after_op w cells s (op.Join a) = put cells s.to (lowest (value_at w.fill cells s.to ++ input_bits w cells a))
-after_op w cells s (op.Replicate count a) = put cells s.to (replicated count (input_bits w cells a))
-after_op w cells s (op.GateStart o) = put cells s.to (gate_start w.fill o ∷ [])
-after_op w cells s (op.GateInput o a) = put cells s.to (gate_table o (upper_bit (value_at w.fill cells s.to)) (upper_bit (at_size 1 false (input_bits w cells a))) ∷ [])
-after_op w cells s (op.GateEnd o) = put cells s.to (gate_output o (upper_bit (value_at w.fill cells s.to)) ∷ [])
 after_op w cells s (op.Test t n) = cells
 after_op w cells s (op.First t a n) = where_true (truth_of w cells t) (put cells s.to (at_step w cells s a)) (put cells (s.to + 1) (at_step w cells s a))
-after_op w cells s (op.Second t b) = put cells s.to (second_bits w cells s t b)
+after_op w cells s o = put cells s.to (op_bits w cells s o)
 
 abbrev pub after : World → Cells → Step → Cells
 after w cells s = after_op w cells s s.op

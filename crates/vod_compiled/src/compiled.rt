@@ -5,8 +5,9 @@ ghost use Rattle.vod_eval.specs.Room.{saturated, room_in};
 ghost use Rattle.vod_compiled.specs.Code.{room, room_by};
 
 use crate::compile::{emit, expr_input};
-use crate::exec::{input, run};
+use crate::exec::run;
 use crate::flat::{cells_of, is_flat};
+use crate::operand::input;
 use crate::step::{Input, Step};
 use std::alloc::{AllocError, Global};
 use std::marker::Model;

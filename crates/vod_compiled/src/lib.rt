@@ -6,8 +6,11 @@ mod compile;
 mod compiled;
 mod exec;
 mod flat;
+mod operand;
 mod ops;
+mod quick;
 mod step;
+mod work;
 
 pub use compiled::Compiled;
 pub use step::{Input, Op, Source, Step};

@@ -3,7 +3,7 @@ ghost use Rattle.std.specs.Prelude.{◌≡◌};
 
 use crate::step::{Input, Op, Source};
 use vod_design::{
-    BinaryOp, ComparisonOp, GateOp, LogicalOp, Memory, ReductionOp, ShiftOp, UnaryOp,
+    BinaryOp, ComparisonOp, GateOp, LogicalOp, NamedMemory, ReductionOp, ShiftOp, UnaryOp,
 };
 
 pub fn select(from: Source, low: u8, count: u8) -> Op
@@ -18,13 +18,13 @@ pub fn index(from: Source, least: u16, index: Input) -> Op
     Op::Index(from, least, index)
 }
 
-pub fn word(memory: Memory, place: u16) -> Op
+pub fn word(memory: NamedMemory, place: u16) -> Op
     ensures { result ≡ Op.Word memory place }
 {
     Op::Word(memory, place)
 }
 
-pub fn word_index(memory: Memory, least: u16, index: Input) -> Op
+pub fn word_index(memory: NamedMemory, least: u16, index: Input) -> Op
     ensures { result ≡ Op.WordIndex memory least index }
 {
     Op::WordIndex(memory, least, index)

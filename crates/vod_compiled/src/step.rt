@@ -4,7 +4,7 @@ ghost use Rattle.std.specs.Prelude.{◌≡◌, ◌∷◌, reverse, IfOk};
 use std::alloc::AllocError;
 use vod_bits::Bits;
 use vod_design::{
-    BinaryOp, ComparisonOp, GateOp, LogicalOp, Memory, ReductionOp, ShiftOp, UnaryOp,
+    BinaryOp, ComparisonOp, GateOp, LogicalOp, NamedMemory, ReductionOp, ShiftOp, UnaryOp,
 };
 
 /// Where bits come from: a signal by its number, a cell by its place, a constant, or nowhere.
@@ -34,9 +34,9 @@ pub enum Op {
     /// A bit by an index, given the least index (5.2.1).
     Index(Source, u16, Input),
     /// A memory word at a place (5.2.2).
-    Word(Memory, u16),
+    Word(NamedMemory, u16),
     /// A memory word by an index, given the least index (5.2.2).
-    WordIndex(Memory, u16, Input),
+    WordIndex(NamedMemory, u16, Input),
     Unary(UnaryOp, Input),
     Binary(BinaryOp, Input, Input),
     Comparison(ComparisonOp, Input, Input),

@@ -40,6 +40,17 @@ pub at_size_length : (width : ℕ) (signed : Bool) (bits : List Bit) → length 
 unfolding at_size
 at_size_length width signed bits = resize_length (bounded width) signed bits
 
+-- a value that has a size already
+same_size : (n : ℕ) (signed : Bool) (xs : List Bit) → length xs ≡ n → resize_bits n signed xs ≡ xs
+unfolding resize_bits
+same_size n signed xs h = let e : n - length xs ≡ 0 = omega arith in let f : length xs - n ≡ 0 = omega arith in rw (e, f) refl
+
+pub at_size_own : (width : ℕ) (signed : Bool) (bits : List Bit) → width ≡ length bits → 1 ≤ length bits → length bits ≤ WIDTH → bits ≡ at_size width signed bits
+unfolding at_size
+at_size_own width signed bits is some within =
+    let e : length bits ≡ bounded width = omega arith in
+    sym (same_size (bounded width) signed bits e)
+
 pub lowest_whole : (xs : List Bit) → length xs ≤ WIDTH → lowest xs ≡ xs
 unfolding lowest
 lowest_whole xs h = let e : length xs - WIDTH ≡ 0 = omega arith in rw e refl

@@ -9,14 +9,14 @@ ghost use Rattle.vod_eval.specs.Pieces.{bits_of_option, filled_bits, lowest};
 use vod_bits::{Bits, WIDTH, Word};
 use vod_value::Value;
 
-// A size from 1 to `WIDTH`, the nearest to the one given.
+/// A size from 1 to `WIDTH`, the nearest to the one given.
 pub fn bounded(width: u8) -> u8
     ensures { result ≡ bounded width }
 {
     width.min(WIDTH).max(1)
 }
 
-// The value at a size.
+/// The value at a size: extended by its sign where it is signed, else by zeros, or its lower bits (IEEE 1364-2005, 5.4, 5.5).
 #[tactic(auto, unfolding(vod_design::specs::Values::at_size))]
 pub fn at_size<V: Value>(value: V, width: u8, signed: bool) -> V
     ensures { V.bits result ≡ at_size width signed (V.bits value) }
@@ -45,7 +45,7 @@ pub fn zero<V: Value>() -> V
     bit(false)
 }
 
-// A value whose bits aren't there, at a size.
+/// A value whose bits aren't there, at a size.
 #[tactic(auto, using(crate::proofs::Cuts::stretch))]
 pub fn unknown<V: Value>(width: u8) -> V
     ensures { V.bits result ≡ unknown V.fill (bounded width) }
@@ -53,7 +53,7 @@ pub fn unknown<V: Value>(width: u8) -> V
     V::nothing().resize(bounded(width), true)
 }
 
-// Bits from a place up, none of them there where they aren't all inside.
+/// Bits from a place up, none of them there where they aren't all inside (5.2.1).
 #[tactic(auto, using(crate::proofs::Cuts::select_inside, crate::proofs::Cuts::select_outside))]
 pub fn select<V: Value>(value: V, low: u8, count: u8) -> V
     ensures { V.bits result ≡ select_bits V.fill low (bounded count) (V.bits value) }
@@ -66,7 +66,7 @@ pub fn select<V: Value>(value: V, low: u8, count: u8) -> V
     }
 }
 
-// The place that an index names above the least index.
+/// The place that an index names above the least index: none where a bit of it is x or z, or where it is less (5.2.1).
 pub fn index_place<V: Value>(least: u16, index: V) -> Option<Word>
     ensures { result ≡ index_place least (V.bits index) }
 {
@@ -74,7 +74,7 @@ pub fn index_place<V: Value>(least: u16, index: V) -> Option<Word>
     number.checked_sub(Word::from(least))
 }
 
-// The bit at a place.
+/// The bit at a place, one that isn't there where the place is none or outside.
 pub fn bit_at_place<V: Value>(value: V, place: Option<Word>) -> V
     ensures { V.bits result ≡ bit_at_place V.fill (V.bits value) place }
 {

@@ -13,7 +13,7 @@ use crate::labels::both;
 use vod_design::{BinaryOp, ComparisonOp, GateOp, LogicalOp, ReductionOp, ShiftOp, Size, UnaryOp};
 use vod_value::Value;
 
-// `-` and `~`.
+/// `-` and `~` (IEEE 1364-2005, 5.1.5, 5.1.10).
 pub fn unary<V: Value>(op: UnaryOp, a: V) -> V
     ensures { V.bits result ≡ unary_bits op (V.bits a) }
 {
@@ -23,7 +23,7 @@ pub fn unary<V: Value>(op: UnaryOp, a: V) -> V
     }
 }
 
-// The operators on two values of one size.
+/// The operators on two values of one size (5.1.5, 5.1.10).
 pub fn binary<V: Value>(op: BinaryOp, a: V, b: V) -> V
     requires { length (V.bits a) ≡ length (V.bits b) }
     ensures { V.bits result ≡ binary_bits op (V.bits a) (V.bits b) }
@@ -73,7 +73,7 @@ fn comparison<V: Value>(op: ComparisonOp, signed: bool, a: V, b: V) -> V
     }
 }
 
-// A comparison of two operands, at the larger of their sizes, as signed ones only where both are.
+/// A comparison of two operands, at the larger of their sizes, as signed ones only where both are; in one bit (5.1.7, 5.1.8).
 #[tactic(auto, using(crate::proofs::Cuts::at_size_length), unfolding(vod_design::specs::Eval::compared))]
 pub fn compared<V: Value>(op: ComparisonOp, a: V, a_signed: bool, b: V, b_signed: bool) -> V
     ensures { V.bits result ≡ compared op (operand (V.bits a) a_signed) (operand (V.bits b) b_signed) ∷ [] }
@@ -83,12 +83,24 @@ pub fn compared<V: Value>(op: ComparisonOp, a: V, a_signed: bool, b: V, b_signed
     comparison(
         op,
         signed,
-        at_size(a, size, signed),
-        at_size(b, size, signed),
+        widened(a, size, signed),
+        widened(b, size, signed),
     )
 }
 
-// `&&` and `||`.
+// A value at a size that it may have already.
+#[inline(always)]
+#[tactic(auto, using(crate::proofs::Cuts::at_size_own))]
+fn widened<V: Value>(value: V, width: u8, signed: bool) -> V
+    ensures { V.bits result ≡ at_size width signed (V.bits value) }
+{
+    if value.width() == width {
+        return value;
+    }
+    at_size(value, width, signed)
+}
+
+/// `&&` and `||`, in one bit (5.1.9).
 pub fn logical<V: Value>(op: LogicalOp, a: V, b: V) -> V
     ensures { V.bits result ≡ logical_bit op (truth_bit (V.bits a)) (truth_bit (V.bits b)) ∷ [] }
 {
@@ -98,7 +110,7 @@ pub fn logical<V: Value>(op: LogicalOp, a: V, b: V) -> V
     }
 }
 
-// The reductions.
+/// The reductions, in one bit (5.1.11).
 pub fn reduction<V: Value>(op: ReductionOp, a: V) -> V
     ensures { V.bits result ≡ reduction_bit op (V.bits a) ∷ [] }
 {
@@ -112,7 +124,7 @@ pub fn reduction<V: Value>(op: ReductionOp, a: V) -> V
     }
 }
 
-// The shifts.
+/// The shifts, given whether the value is signed, and the amount of any width (5.1.12).
 pub fn shifted<V: Value>(op: ShiftOp, signed: bool, amount: V, a: V) -> V
     ensures { V.bits result ≡ shift_bits op signed (V.bits amount) (V.bits a) }
 {
@@ -144,7 +156,7 @@ pub fn is_identical<V: Value>(size: Size, a: V, b: V) -> bool
     one.identical(other)
 }
 
-// What a gate begins with, before its first input.
+/// What a gate begins with, before its first input (7.2, 7.3).
 pub fn gate_start<V: Value>(op: GateOp) -> V
     ensures { V.bits result ≡ gate_start V.fill op ∷ [] }
 {
@@ -160,7 +172,7 @@ pub fn gate_start<V: Value>(op: GateOp) -> V
     }
 }
 
-// What a gate makes of its inputs so far and one more.
+/// What a gate makes of its inputs so far and one more, each of one bit.
 #[tactic(auto, using(crate::proofs::Gates::zip_one, crate::proofs::Gates::one_bit))]
 pub fn gate_table<V: Value>(op: GateOp, so_far: V, input: V) -> V
     requires so_far { length (V.bits so_far) ≡ 1 }
@@ -179,7 +191,7 @@ pub fn gate_table<V: Value>(op: GateOp, so_far: V, input: V) -> V
     }
 }
 
-// What a gate makes of all its inputs together.
+/// What a gate makes of all its inputs together, in one bit.
 #[tactic(auto, using(crate::proofs::Gates::map_one, crate::proofs::Gates::map_twice, crate::proofs::Gates::one_bit))]
 pub fn gate_output<V: Value>(op: GateOp, folded: V) -> V
     requires { length (V.bits folded) ≡ 1 }

@@ -6,7 +6,7 @@ ghost use Rattle.vod_eval.specs.Scenes.{seen, callable_in, scene_values};
 use crate::bits::unknown;
 use crate::table::{Tables, value_at};
 use vod_bits::Word;
-use vod_design::{Function, Memory, Named, Variable};
+use vod_design::{Function, Named, NamedMemory, Variable};
 use vod_value::Value;
 
 // What an expression is evaluated over: the functions, of which those before the limit may be called, and the tables. In a
@@ -67,7 +67,11 @@ fn word_at<V: Value, T: Tables<V>>(
 }
 
 // A memory word, none of its bits there where there is no such word.
-pub fn word<V: Value, T: Tables<V>>(scene: &Scene<'_, T>, memory: Memory, place: Option<Word>) -> V
+pub fn word<V: Value, T: Tables<V>>(
+    scene: &Scene<'_, T>,
+    memory: NamedMemory,
+    place: Option<Word>,
+) -> V
     ensures { V.bits result ≡ word_or_x V.fill (bounded memory.width) (word_at (scene_values (seen V.fill T.values scene.now)) memory.number place) }
 {
     match word_at(scene, memory.number, place) {

@@ -6,7 +6,7 @@ use Rattle.vod_compiled.proofs.exec.run.Goals as goal
 pub loop-at-preserved : goal.loop-at-preserved
 loop-at-preserved g c =
     let w = world g.V.Value.fill (g.T.Tables.values c.args.tables.now) in
-    next_place w c.args.steps.now c.loop-at.at c.perform-behind.result _ (map g.V.Value.bits c.perform-behind.new.cells) c.loop-at-test.true (ap (λ m. c.loop-at.at + (1 + m)) c.min.ensures)
+    next_place w c.args.steps.now c.loop-at.at c.perform-behind.result _ (map g.V.Value.bits c.perform-behind.new.cells) c.loop-at-test.true c.next_place-at.ensures
     ∙ sym (step_more w c.args.steps.now c.loop-at.at c.index-steps-at.result (map g.V.Value.bits c.loop-at.cells) (map g.V.Value.bits c.perform-behind.new.cells) c.perform-behind.result c.loop-at-test.true c.index-steps-at.is c.perform-behind.ensures.cells c.perform-behind.ensures.skips)
     ∙ c.loop-at.invariant
 
