@@ -2,7 +2,7 @@
 use sqlite_items::{Boxed, Items};
 use std::alloc::{AllocError, Global};
 use vod_design::{
-    BinaryOp, ComparisonOp, GateOp, LogicalOp, NamedMemory, Named, ReductionOp, ShiftOp, SizedExpr,
+    BinaryOp, ComparisonOp, GateOp, LogicalOp, Named, NamedMemory, ReductionOp, ShiftOp, SizedExpr,
     SizedKind, UnaryOp, Variable,
 };
 

@@ -2,7 +2,7 @@
 use sqlite_items::{Boxed, Items};
 use std::alloc::{AllocError, Global};
 use vod_bits::Bits;
-use vod_design::{Driver, NamedMemory, Named, Place, Places, SizedExpr, SizedKind, Variable};
+use vod_design::{Driver, Named, NamedMemory, Place, Places, SizedExpr, SizedKind, Variable};
 
 /// Lets go of a part of a tree.
 fn let_go<T: Drop>(_value: T) {}

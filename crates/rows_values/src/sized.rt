@@ -15,7 +15,7 @@ use std::alloc::{AllocError, Global};
 use std::io;
 use vod_bits::Bits;
 use vod_design::{
-    Body, CaseItem, Function, GateOp, Locals, NamedMemory, Named, Part, PartTarget, SizedExpr,
+    Body, CaseItem, Function, GateOp, Locals, Named, NamedMemory, Part, PartTarget, SizedExpr,
     SizedKind, Statement, Variable,
 };
 use vod_eval::{Lists, call_rooms, expr_room, value_of};

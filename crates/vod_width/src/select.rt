@@ -14,7 +14,7 @@ use crate::number::{above, byte, two_bytes};
 use sqlite_items::Boxed;
 use std::alloc::{AllocError, Global};
 use vod_bits::{Bits, Word};
-use vod_design::{NamedMemory, Named, SizedExpr, SizedKind};
+use vod_design::{Named, NamedMemory, SizedExpr, SizedKind};
 use vod_operand::{
     Fault, Looked, WIDE, both_hold, fault_if, fault_of, fit_own, fit_own_pair, join, tree_unless,
     unplaced, unsized_node,
