@@ -143,6 +143,19 @@ kind_parameters k = []
 abbrev pub item_parameters : Item → List Named
 item_parameters i = kind_parameters i.kind
 
+-- the directions among the items: ports that the body declares (12.3.3)
+abbrev pub kind_directions : ItemKind → List Named
+kind_directions (item.Input d) = each_named (direction kind.Input d.wire d.signed d.range) d.names
+kind_directions (item.Output d) = each_named (direction kind.Output d.wire d.signed d.range) d.names
+kind_directions (item.OutputReg d) = each_value (shaped kind.OutputReg d.signed d.range) d.values
+kind_directions k = []
+
+abbrev pub item_directions : Item → List Named
+item_directions i = kind_directions i.kind
+
+abbrev pub directions : Module → List Named
+directions m = flat_map item_directions m.items
+
 -- all that a module declares: its parameters, its ports, its items
 abbrev pub declarations : Module → List Named
 declarations m = header_parameters m.parameters ++ (header_declarations m.ports ++ flat_map item_declarations m.items)

@@ -1,7 +1,7 @@
 //! What the items of a module declare.
 ghost use Rattle.std.specs.Prelude.{◌≡◌, ◌++◌, map, flat_map, OnOk};
 ghost use Rattle.vod_names.specs.Entries.{plain};
-ghost use Rattle.vod_names.specs.Lists.{direction, each_named, gate_name, each_setting, each_value, register_kind, register_ident, register_declaration, gate_declarations, instance_declaration, kind_declarations, item_declarations, kind_parameters, item_parameters};
+ghost use Rattle.vod_names.specs.Lists.{direction, each_named, gate_name, each_setting, each_value, register_kind, register_ident, register_declaration, gate_declarations, instance_declaration, kind_declarations, item_declarations, kind_parameters, item_parameters, kind_directions, item_directions};
 
 use crate::header::{add_each, shaped};
 use crate::{Declaration, Kind, Memory, Names};
@@ -67,6 +67,30 @@ fn add_item<'s>(names: &mut Names<'s>, item: &'s ItemKind) -> Result<(), Memory>
             names.declare(&function.name, declaration)
         }
         ItemKind::Assign(_) | ItemKind::Initial(_) | ItemKind::Always(_) => Ok(()),
+    }
+}
+
+/// Adds the directions among items.
+pub(crate) fn add_directions<'s>(names: &mut Names<'s>, items: &'s [Item]) -> Result<(), Memory>
+    ensures { OnOk result (names.new ≡ names.old ++ flat_map item_directions items.now) }
+{
+    for item in items {
+        add_item_directions(names, &item.kind)?;
+    }
+    Ok(())
+}
+
+fn add_item_directions<'s>(names: &mut Names<'s>, item: &'s ItemKind) -> Result<(), Memory>
+    ensures { OnOk result (names.new ≡ names.old ++ kind_directions item.now) }
+{
+    match item {
+        ItemKind::Input(it) => add_direction(names, Kind::Input, it),
+        ItemKind::Output(it) => add_direction(names, Kind::Output, it),
+        ItemKind::OutputReg(it) => {
+            let declaration = shaped(Kind::OutputReg, it.signed, &it.range);
+            add_values(names, declaration, it.values.as_slice())
+        }
+        _ => Ok(()),
     }
 }
 

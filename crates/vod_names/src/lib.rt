@@ -11,6 +11,6 @@ mod memory;
 mod names;
 
 pub use entry::{Declaration, Entry, Kind};
-pub use lists::{declarations, function_declarations, listed_names, parameters, ports};
+pub use lists::{declarations, directions, function_declarations, listed_names, parameters, ports};
 pub use memory::Memory;
 pub use names::Names;

@@ -1,10 +1,10 @@
 //! The lists of a module and of a function.
 ghost use Rattle.std.specs.Prelude.{◌≡◌, IfOk};
-ghost use Rattle.vod_names.specs.Lists.{declarations, function_declarations, listed_names, parameters, ports};
+ghost use Rattle.vod_names.specs.Lists.{declarations, directions, function_declarations, listed_names, parameters, ports};
 
 use crate::function::{add_header_inputs, add_inner};
 use crate::header::{add_header_names, add_header_parameters, add_header_ports, shaped};
-use crate::items::{add_items, add_parameters};
+use crate::items::{add_directions, add_items, add_parameters};
 use crate::{Kind, Memory, Names};
 use std::alloc::Global;
 use vod_tree::{Function, Module};
@@ -26,6 +26,15 @@ pub fn listed_names<'s>(alloc: Global, module: &'s Module) -> Result<Names<'s>, 
 {
     let mut names: Names<'s> = Names::new(alloc);
     add_header_names(&mut names, &module.ports)?;
+    Ok(names)
+}
+
+/// The directions in the body of a module (12.3.3).
+pub fn directions<'s>(alloc: Global, module: &'s Module) -> Result<Names<'s>, Memory>
+    ensures { IfOk result (λ names. names ≡ directions «module».now) }
+{
+    let mut names: Names<'s> = Names::new(alloc);
+    add_directions(&mut names, module.items.as_slice())?;
     Ok(names)
 }
 
