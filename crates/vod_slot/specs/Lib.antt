@@ -1,0 +1,6 @@
+pub mod Store
+pub mod State
+pub mod Step
+pub mod Shape
+pub mod Settled
+pub mod Run
