@@ -1,3 +1,9 @@
+pub mod Lists
 pub mod Replaced
 pub mod Raised
 pub mod Writes
+pub mod Puts
+pub mod Statements
+pub mod Shaped
+pub mod Targets
+pub mod Followed

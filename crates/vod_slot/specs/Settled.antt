@@ -5,6 +5,7 @@ use Rattle.vod_design.specs.declared.parts.Driver.{Driver}
 use Rattle.vod_design.specs.Netlist.{Netlist}
 use Rattle.vod_slot.specs.Store.{Store, brought, bits_at}
 use Rattle.vod_slot.specs.State.{State, flag_at, option_at}
+use Rattle.vod_slot.specs.Shape.{IsShaped, WritesRegisters}
 
 -- a driver awaits evaluation; or what it brings is its pending value; or it has none, and its target has that
 abbrev pub IsFollowed : Netlist → Store → Driver → Bool → Option (List Bit) → Type 0
@@ -16,3 +17,9 @@ AreFollowed d st = (j : ℕ) (a : Driver) → slice_get d.drivers j ≡ Some a �
 -- each driver's target has what it brings (6.1.2)
 abbrev pub IsSettled : Netlist → Store → Type 0
 IsSettled d store = All (λ (a : Driver). bits_at store a.target ≡ brought d store a) d.drivers
+
+-- what each state keeps that a run comes to
+pub record IsConsistent (d : Netlist) (st : State) : Type 0 where
+  pub shaped : IsShaped d st
+  pub registers : WritesRegisters d st
+  pub followed : AreFollowed d st

@@ -1,10 +1,13 @@
 //! What holds of the queue in every order of its events.
-ghost use Rattle.std.specs.Prelude.{◌≡◌, ◌⊎◌, ◌<◌, ℕ, List, length, true, Some, slice_get};
+ghost use Rattle.std.specs.Prelude.{◌≡◌, ◌⊎◌, ◌<◌, ℕ, List, IsTrue, length, true, Some, slice_get};
 ghost use Rattle.vod_design.specs.declared.parts.Driver.{Driver};
+ghost use Rattle.vod_design.specs.declared.vector.Move.{Move};
+ghost use Rattle.vod_design.specs.Accepted.{IsAccepted};
 ghost use Rattle.vod_design.specs.Netlist.{Netlist};
 ghost use Rattle.vod_slot.specs.Store.{Write, brought};
-ghost use Rattle.vod_slot.specs.State.{State, flag_at};
-ghost use Rattle.vod_slot.specs.Step.{put_all};
+ghost use Rattle.vod_slot.specs.State.{State, flag_at, start_of, opened, IsResting};
+ghost use Rattle.vod_slot.specs.Step.{Event, is_allowed, after, put_all};
+ghost use Rattle.vod_slot.specs.Settled.{IsConsistent, IsSettled};
 
 use vod_design::value_hangs_on_reads;
 
@@ -13,5 +16,17 @@ pub fn changes_wake_readers()
     ensures { (d : Netlist) (writes : List Write) (st : State) (j : ℕ) (a : Driver) → slice_get d.drivers j ≡ Some a → j < length st.wake → (flag_at (put_all d writes st).wake j ≡ true) ⊎ (brought d (put_all d writes st).store a ≡ brought d st.store a) }
 {
     // What a driver brings hangs on what it reads: a law, which does nothing when it runs.
+    value_hangs_on_reads();
+}
+
+/// At every moment of a run each driver awaits evaluation, or what it brings is its pending value, or its target has that; and what is
+/// left of blocks and initial items writes registers and memory words alone. So where nothing is left, each driver's target has its
+/// right side's value.
+pub fn drivers_are_followed()
+    ensures start { (d : Netlist) (ranked : List ℕ) → IsAccepted d ranked → IsConsistent d (start_of d) }
+    ensures opened { (d : Netlist) (s : State) (moves : List Move) → IsConsistent d s → IsConsistent d (opened d moves s) }
+    ensures after { (d : Netlist) (ranked : List ℕ) (s : State) (event : Event) → IsAccepted d ranked → IsConsistent d s → IsTrue (is_allowed s event) → IsConsistent d (after d s event) }
+    ensures settled { (d : Netlist) (s : State) → IsConsistent d s → IsResting s → IsSettled d s.store }
+{
     value_hangs_on_reads();
 }
