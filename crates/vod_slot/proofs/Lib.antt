@@ -7,3 +7,9 @@ pub mod Statements
 pub mod Shaped
 pub mod Targets
 pub mod Followed
+pub mod Digits
+pub mod Stacks
+pub mod Paths
+pub mod Outside
+pub mod Falls
+pub mod Ends

@@ -54,12 +54,12 @@ first_kept P value tested (item ∷ items) otherwise each last =
     taken true h k = h
     taken false h k = k
 
-case_kept : (P : Statement → Type 0) (value : SizedExpr → Operand) (tested : SizedExpr) (items : List CaseItem) (otherwise : Statement) → All (λ (item : CaseItem). P item.body) items → P otherwise → P (case_branch value tested (map choice items) otherwise)
+pub case_kept : (P : Statement → Type 0) (value : SizedExpr → Operand) (tested : SizedExpr) (items : List CaseItem) (otherwise : Statement) → All (λ (item : CaseItem). P item.body) items → P otherwise → P (case_branch value tested (map choice items) otherwise)
 case_kept P value tested items otherwise each last =
     let es = compared_in tested (map choice items) in
     first_kept P (λ e. at_largest es (value e).bits) (at_largest es (value tested).bits) items otherwise each last
 
-either_kept : (P : Statement → Type 0) (b : Bool) (s t : Statement) → P s → P t → P (if b then s else t)
+pub either_kept : (P : Statement → Type 0) (b : Bool) (s t : Statement) → P s → P t → P (if b then s else t)
 either_kept P true s t h k = h
 either_kept P false s t h k = k
 

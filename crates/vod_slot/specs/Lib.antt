@@ -4,3 +4,4 @@ pub mod Step
 pub mod Shape
 pub mod Settled
 pub mod Run
+pub mod Weight

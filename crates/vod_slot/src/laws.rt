@@ -1,13 +1,16 @@
 //! What holds of the queue in every order of its events.
-ghost use Rattle.std.specs.Prelude.{◌≡◌, ◌⊎◌, ◌<◌, ℕ, List, IsTrue, length, true, Some, slice_get};
+ghost use Rattle.std.specs.Prelude.{◌≡◌, ◌⊎◌, ◌<◌, ◌≤◌, ◌+◌, ℕ, List, IsTrue, length, true, Some, slice_get};
 ghost use Rattle.vod_design.specs.declared.parts.Driver.{Driver};
 ghost use Rattle.vod_design.specs.declared.vector.Move.{Move};
+ghost use Rattle.vod_design.specs.declared.vector.Vector.{Vector};
 ghost use Rattle.vod_design.specs.Accepted.{IsAccepted};
 ghost use Rattle.vod_design.specs.Netlist.{Netlist};
 ghost use Rattle.vod_slot.specs.Store.{Write, brought};
 ghost use Rattle.vod_slot.specs.State.{State, flag_at, start_of, opened, IsResting};
 ghost use Rattle.vod_slot.specs.Step.{Event, is_allowed, after, put_all};
+ghost use Rattle.vod_slot.specs.Run.{Steps, Completes, IsRun};
 ghost use Rattle.vod_slot.specs.Settled.{IsConsistent, IsSettled};
+ghost use Rattle.vod_slot.specs.Weight.{weight_of};
 
 use vod_design::value_hangs_on_reads;
 
@@ -27,6 +30,18 @@ pub fn drivers_are_followed()
     ensures opened { (d : Netlist) (s : State) (moves : List Move) → IsConsistent d s → IsConsistent d (opened d moves s) }
     ensures after { (d : Netlist) (ranked : List ℕ) (s : State) (event : Event) → IsAccepted d ranked → IsConsistent d s → IsTrue (is_allowed s event) → IsConsistent d (after d s event) }
     ensures settled { (d : Netlist) (s : State) → IsConsistent d s → IsResting s → IsSettled d s.store }
+{
+    value_hangs_on_reads();
+}
+
+/// Every order of events ends: what is left weighs less after each event. From each moment of a run its slot can be completed, and in
+/// every end of it each driver's target has its right side's value; so each list of vectors has a legal run.
+pub fn every_order_ends()
+    ensures falls { (d : Netlist) (ranked : List ℕ) (s : State) (event : Event) → IsAccepted d ranked → IsConsistent d s → IsTrue (is_allowed s event) → weight_of d ranked (after d s event) < weight_of d ranked s }
+    ensures order_ends { (d : Netlist) (ranked : List ℕ) (s t : State) (events : List Event) → IsAccepted d ranked → IsConsistent d s → Steps d s events t → length events + weight_of d ranked t ≤ weight_of d ranked s }
+    ensures slot_exists { (d : Netlist) (ranked : List ℕ) (s : State) → IsAccepted d ranked → IsConsistent d s → (t : State) × Completes d s t }
+    ensures settled { (d : Netlist) (ranked : List ℕ) (s t : State) → IsAccepted d ranked → IsConsistent d s → Completes d s t → IsConsistent d t × IsSettled d t.store }
+    ensures run_exists { (d : Netlist) (ranked : List ℕ) (vectors : List Vector) → IsAccepted d ranked → (first : State) × (ends : List State) × IsRun d vectors first ends }
 {
     value_hangs_on_reads();
 }
