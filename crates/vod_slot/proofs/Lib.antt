@@ -13,3 +13,4 @@ pub mod Paths
 pub mod Outside
 pub mod Falls
 pub mod Ends
+pub mod Unique

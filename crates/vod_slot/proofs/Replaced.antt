@@ -93,11 +93,11 @@ slice_kept low width i bit bits h (inr behind) =
     ∙ ap (take width) (drop-set-add m bits (i - m) bit)
     ∙ take-set-le width (drop m bits) (i - m) bit (omega arith)
 
-selected_inside : (low width : ℕ) (bits : List Bit) → low + width ≤ length bits → select_bits BX low width bits ≡ take width (drop (length bits - (low + width)) bits)
+pub selected_inside : (low width : ℕ) (bits : List Bit) → low + width ≤ length bits → select_bits BX low width bits ≡ take width (drop (length bits - (low + width)) bits)
 unfolding select_bits slice_bits
 selected_inside low width bits h = rw (le-leb (low + width) (length bits) h) refl
 
-selected_outside : (low width : ℕ) (bits : List Bit) → length bits < low + width → select_bits BX low width bits ≡ unknown BX width
+pub selected_outside : (low width : ℕ) (bits : List Bit) → length bits < low + width → select_bits BX low width bits ≡ unknown BX width
 unfolding select_bits
 selected_outside low width bits h = rw (false_from_ne_true (nat_le (low + width) (length bits)) (λ is. let le = leb-true (low + width) (length bits) is in absurd (omega arith))) refl
 

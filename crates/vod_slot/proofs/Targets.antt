@@ -57,7 +57,7 @@ targets_apart d ranked h j k a c at at' apart =
     order)
     (cases_order j k)
 
-width_at : (signals : List Signal) (n : ℕ) → width_in signals n ≡ get_or (map (λ (s : Signal). s.width) signals) n 0
+pub width_at : (signals : List Signal) (n : ℕ) → width_in signals n ≡ get_or (map (λ (s : Signal). s.width) signals) n 0
 width_at [] n = refl
 width_at (s ∷ signals) zero = refl
 width_at (s ∷ signals) (suc n) = width_at signals n

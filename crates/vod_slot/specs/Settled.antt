@@ -1,8 +1,9 @@
 -- What each state keeps of its drivers, and where all of them are settled.
 use Rattle.std.specs.Prelude.{◌≡◌, ◌⊎◌, ℕ, Bool, true, List, All, Option, None, Some, slice_get}
-use Rattle.vod_bits.specs.Bit.{Bit}
+use Rattle.vod_bits.specs.Bit.{Bit, BX}
 use Rattle.vod_design.specs.declared.parts.Driver.{Driver}
-use Rattle.vod_design.specs.Netlist.{Netlist}
+use Rattle.vod_design.specs.Netlist.{Netlist, IsRegister, IsInput}
+use Rattle.vod_design.specs.Values.{value_at}
 use Rattle.vod_slot.specs.Store.{Store, brought, bits_at}
 use Rattle.vod_slot.specs.State.{State, flag_at, option_at}
 use Rattle.vod_slot.specs.Shape.{IsShaped, WritesRegisters}
@@ -23,3 +24,9 @@ pub record IsConsistent (d : Netlist) (st : State) : Type 0 where
   pub shaped : IsShaped d st
   pub registers : WritesRegisters d st
   pub followed : AreFollowed d st
+
+-- two stores with the same registers, inputs and memory words
+pub record AgreeFirst (d : Netlist) (s t : Store) : Type 0 where
+  pub registers : (n : ℕ) → IsRegister d n → value_at BX s.signals n ≡ value_at BX t.signals n
+  pub inputs : (n : ℕ) → IsInput d n → value_at BX s.signals n ≡ value_at BX t.signals n
+  pub memories : s.memories ≡ t.memories

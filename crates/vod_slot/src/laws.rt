@@ -9,7 +9,7 @@ ghost use Rattle.vod_slot.specs.Store.{Write, brought};
 ghost use Rattle.vod_slot.specs.State.{State, flag_at, start_of, opened, IsResting};
 ghost use Rattle.vod_slot.specs.Step.{Event, is_allowed, after, put_all};
 ghost use Rattle.vod_slot.specs.Run.{Steps, Completes, IsRun};
-ghost use Rattle.vod_slot.specs.Settled.{IsConsistent, IsSettled};
+ghost use Rattle.vod_slot.specs.Settled.{AgreeFirst, IsConsistent, IsSettled};
 ghost use Rattle.vod_slot.specs.Weight.{weight_of};
 
 use vod_design::value_hangs_on_reads;
@@ -42,6 +42,13 @@ pub fn every_order_ends()
     ensures slot_exists { (d : Netlist) (ranked : List ℕ) (s : State) → IsAccepted d ranked → IsConsistent d s → (t : State) × Completes d s t }
     ensures settled { (d : Netlist) (ranked : List ℕ) (s t : State) → IsAccepted d ranked → IsConsistent d s → Completes d s t → IsConsistent d t × IsSettled d t.store }
     ensures run_exists { (d : Netlist) (ranked : List ℕ) (vectors : List Vector) → IsAccepted d ranked → (first : State) × (ends : List State) × IsRun d vectors first ends }
+{
+    value_hangs_on_reads();
+}
+
+/// Where nothing is left, registers, memory words and inputs decide all else: two states with the same of these are one.
+pub fn registers_decide_nets()
+    ensures { (d : Netlist) (ranked : List ℕ) (s t : State) → IsAccepted d ranked → IsConsistent d s → IsConsistent d t → IsResting s → IsResting t → AgreeFirst d s.store t.store → s ≡ t }
 {
     value_hangs_on_reads();
 }

@@ -5,4 +5,6 @@ mod event;
 mod laws;
 
 pub use crate::event::Event;
-pub use crate::laws::{changes_wake_readers, drivers_are_followed, every_order_ends};
+pub use crate::laws::{
+    changes_wake_readers, drivers_are_followed, every_order_ends, registers_decide_nets,
+};
