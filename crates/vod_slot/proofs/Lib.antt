@@ -1,0 +1,16 @@
+pub mod Lists
+pub mod Replaced
+pub mod Raised
+pub mod Writes
+pub mod Puts
+pub mod Statements
+pub mod Shaped
+pub mod Targets
+pub mod Followed
+pub mod Digits
+pub mod Stacks
+pub mod Paths
+pub mod Outside
+pub mod Falls
+pub mod Ends
+pub mod Unique

@@ -1,0 +1,7 @@
+pub mod Store
+pub mod State
+pub mod Step
+pub mod Shape
+pub mod Settled
+pub mod Run
+pub mod Weight

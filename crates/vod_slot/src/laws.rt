@@ -1,0 +1,54 @@
+//! What holds of the queue in every order of its events.
+ghost use Rattle.std.specs.Prelude.{◌≡◌, ◌⊎◌, ◌<◌, ◌≤◌, ◌+◌, ℕ, List, IsTrue, length, true, Some, slice_get};
+ghost use Rattle.vod_design.specs.declared.parts.Driver.{Driver};
+ghost use Rattle.vod_design.specs.declared.vector.Move.{Move};
+ghost use Rattle.vod_design.specs.declared.vector.Vector.{Vector};
+ghost use Rattle.vod_design.specs.Accepted.{IsAccepted};
+ghost use Rattle.vod_design.specs.Netlist.{Netlist};
+ghost use Rattle.vod_slot.specs.Store.{Write, brought};
+ghost use Rattle.vod_slot.specs.State.{State, flag_at, start_of, opened, IsResting};
+ghost use Rattle.vod_slot.specs.Step.{Event, is_allowed, after, put_all};
+ghost use Rattle.vod_slot.specs.Run.{Steps, Completes, IsRun};
+ghost use Rattle.vod_slot.specs.Settled.{AgreeFirst, IsConsistent, IsSettled};
+ghost use Rattle.vod_slot.specs.Weight.{weight_of};
+
+use vod_design::value_hangs_on_reads;
+
+/// Whatever is written, each driver then awaits evaluation or brings what it brought before.
+pub fn changes_wake_readers()
+    ensures { (d : Netlist) (writes : List Write) (st : State) (j : ℕ) (a : Driver) → slice_get d.drivers j ≡ Some a → j < length st.wake → (flag_at (put_all d writes st).wake j ≡ true) ⊎ (brought d (put_all d writes st).store a ≡ brought d st.store a) }
+{
+    // What a driver brings hangs on what it reads: a law, which does nothing when it runs.
+    value_hangs_on_reads();
+}
+
+/// At every moment of a run each driver awaits evaluation, or what it brings is its pending value, or its target has that; and what is
+/// left of blocks and initial items writes registers and memory words alone. So where nothing is left, each driver's target has its
+/// right side's value.
+pub fn drivers_are_followed()
+    ensures start { (d : Netlist) (ranked : List ℕ) → IsAccepted d ranked → IsConsistent d (start_of d) }
+    ensures opened { (d : Netlist) (s : State) (moves : List Move) → IsConsistent d s → IsConsistent d (opened d moves s) }
+    ensures after { (d : Netlist) (ranked : List ℕ) (s : State) (event : Event) → IsAccepted d ranked → IsConsistent d s → IsTrue (is_allowed s event) → IsConsistent d (after d s event) }
+    ensures settled { (d : Netlist) (s : State) → IsConsistent d s → IsResting s → IsSettled d s.store }
+{
+    value_hangs_on_reads();
+}
+
+/// Every order of events ends: what is left weighs less after each event. From each moment of a run its slot can be completed, and in
+/// every end of it each driver's target has its right side's value; so each list of vectors has a legal run.
+pub fn every_order_ends()
+    ensures falls { (d : Netlist) (ranked : List ℕ) (s : State) (event : Event) → IsAccepted d ranked → IsConsistent d s → IsTrue (is_allowed s event) → weight_of d ranked (after d s event) < weight_of d ranked s }
+    ensures order_ends { (d : Netlist) (ranked : List ℕ) (s t : State) (events : List Event) → IsAccepted d ranked → IsConsistent d s → Steps d s events t → length events + weight_of d ranked t ≤ weight_of d ranked s }
+    ensures slot_exists { (d : Netlist) (ranked : List ℕ) (s : State) → IsAccepted d ranked → IsConsistent d s → (t : State) × Completes d s t }
+    ensures settled { (d : Netlist) (ranked : List ℕ) (s t : State) → IsAccepted d ranked → IsConsistent d s → Completes d s t → IsConsistent d t × IsSettled d t.store }
+    ensures run_exists { (d : Netlist) (ranked : List ℕ) (vectors : List Vector) → IsAccepted d ranked → (first : State) × (ends : List State) × IsRun d vectors first ends }
+{
+    value_hangs_on_reads();
+}
+
+/// Where nothing is left, registers, memory words and inputs decide all else: two states with the same of these are one.
+pub fn registers_decide_nets()
+    ensures { (d : Netlist) (ranked : List ℕ) (s t : State) → IsAccepted d ranked → IsConsistent d s → IsConsistent d t → IsResting s → IsResting t → AgreeFirst d s.store t.store → s ≡ t }
+{
+    value_hangs_on_reads();
+}

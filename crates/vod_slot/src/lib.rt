@@ -1,0 +1,10 @@
+//! The event queue of whole designs: what its events do, and what holds in every order of them (IEEE 1364-2005, 11.3 and 11.4).
+#![tactic(auto)]
+
+mod event;
+mod laws;
+
+pub use crate::event::Event;
+pub use crate::laws::{
+    changes_wake_readers, drivers_are_followed, every_order_ends, registers_decide_nets,
+};
