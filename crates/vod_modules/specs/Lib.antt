@@ -1,0 +1,4 @@
+pub mod Names
+pub mod Uses
+pub mod Faults
+pub mod Modules
