@@ -42,7 +42,7 @@ abbrev pub is_repeated : Option Declaration → Declaration → Bool
 is_repeated None d = false
 is_repeated (Some e) d = not (completes e d)
 
--- each name is declared once (3.12, 4.11): the later one is at fault
+-- each name is declared once (4.11): the later one is at fault
 abbrev pub declared_again : List Named → Named → List ℕ
 declared_again earlier d = place_if (is_repeated (last_of d.0 earlier) d.1) d.1.place
 

@@ -1,0 +1,11 @@
+//! Whether the names in expressions and on left sides are declared before, and as what they are used for (IEEE 1364-2005,
+//! clauses 4 and 5, and 12.7).
+#![tactic(auto)]
+
+mod expr;
+mod left;
+mod scope;
+
+pub use expr::{first_misuse, first_misuse_of};
+pub use left::{first_left_misuse, first_left_misuse_of};
+pub use scope::{Scope, Usage, misused};
