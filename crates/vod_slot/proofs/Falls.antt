@@ -39,7 +39,7 @@ drivers_fall u' u b s' s l' l p same same' lt = rw (same, same') (omega arith)
 
 -- what writes leave
 
-moves-put_all : (d : Netlist) (writes : List Write) (st : State) → (put_all d writes st).moves ≡ st.moves
+pub moves-put_all : (d : Netlist) (writes : List Write) (st : State) → (put_all d writes st).moves ≡ st.moves
 moves-put_all d [] st = refl
 moves-put_all d (w ∷ writes) st = moves-put_all d writes (put d w st)
 
@@ -47,7 +47,7 @@ init-put_all : (d : Netlist) (writes : List Write) (st : State) → (put_all d w
 init-put_all d [] st = refl
 init-put_all d (w ∷ writes) st = init-put_all d writes (put d w st)
 
-pend-put_all : (d : Netlist) (writes : List Write) (st : State) → (put_all d writes st).pend ≡ st.pend
+pub pend-put_all : (d : Netlist) (writes : List Write) (st : State) → (put_all d writes st).pend ≡ st.pend
 pend-put_all d [] st = refl
 pend-put_all d (w ∷ writes) st = pend-put_all d writes (put d w st)
 

@@ -14,3 +14,6 @@ pub mod Outside
 pub mod Falls
 pub mod Ends
 pub mod Unique
+pub mod Links
+pub mod Edges
+pub mod Openings

@@ -203,7 +203,7 @@ todo_kept d ranked (w ∷ writes) st out =
     ∙ triggered_none (starts st.store w) d.blocks st.todo (no_start st.store w d.blocks (upstream_keeps d.drivers ranked (awaited d.blocks) (touches w) (All-head (IsOutside d ranked) w writes out)))
 
 -- registers and words are outside
-follows_net : (d : Netlist) (ranked : List ℕ) → IsAccepted d ranked → (input : Input) → Contains d.inputs input → (n : ℕ) → Follows d input.signal n → IsNet d n
+pub follows_net : (d : Netlist) (ranked : List ℕ) → IsAccepted d ranked → (input : Input) → Contains d.inputs input → (n : ℕ) → Follows d input.signal n → IsNet d n
 follows_net d ranked h input stands n itself = All-contains (λ (i : Input). IsNet d i.signal) d.inputs input h.flat.inputs stands
 follows_net d ranked h input stands n (copied {from = from} {to = to} {a = c} is_driver copies follows) =
     let place = place_in d.drivers c is_driver in

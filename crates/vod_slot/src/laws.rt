@@ -1,5 +1,6 @@
 //! What holds of the queue in every order of its events.
 ghost use Rattle.std.specs.Prelude.{◌≡◌, ◌⊎◌, ◌<◌, ◌≤◌, ◌+◌, ℕ, List, IsTrue, length, true, Some, slice_get};
+ghost use Rattle.vod_bits.specs.Bit.{Bit, BX, BZ};
 ghost use Rattle.vod_design.specs.declared.parts.Driver.{Driver};
 ghost use Rattle.vod_design.specs.declared.vector.Move.{Move};
 ghost use Rattle.vod_design.specs.declared.vector.Vector.{Vector};
@@ -9,6 +10,7 @@ ghost use Rattle.vod_slot.specs.Store.{Write, brought};
 ghost use Rattle.vod_slot.specs.State.{State, flag_at, start_of, opened, IsResting};
 ghost use Rattle.vod_slot.specs.Step.{Event, is_allowed, after, put_all};
 ghost use Rattle.vod_slot.specs.Run.{Steps, Completes, IsRun};
+ghost use Rattle.vod_slot.specs.Edges.{edge_bit, AreEdgesKept, DoMovesFit};
 ghost use Rattle.vod_slot.specs.Settled.{AgreeFirst, IsConsistent, IsSettled};
 ghost use Rattle.vod_slot.specs.Weight.{weight_of};
 
@@ -49,6 +51,16 @@ pub fn every_order_ends()
 /// Where nothing is left, registers, memory words and inputs decide all else: two states with the same of these are one.
 pub fn registers_decide_nets()
     ensures { (d : Netlist) (ranked : List ℕ) (s t : State) → IsAccepted d ranked → IsConsistent d s → IsConsistent d t → IsResting s → IsResting t → AgreeFirst d s.store t.store → s ≡ t }
+{
+    value_hangs_on_reads();
+}
+
+/// In each slot an edge net has its opening value or the one that its input brings, and so changes at most once: in slot 0 from x to z,
+/// and later from what it had as the slot opened. Every event keeps this.
+pub fn edge_nets_change_once()
+    ensures start { (d : Netlist) (ranked : List ℕ) → IsAccepted d ranked → AreEdgesKept d (λ n. BX) (λ n. BZ) (start_of d) }
+    ensures opened { (d : Netlist) (ranked : List ℕ) (s : State) (moves : List Move) → IsAccepted d ranked → IsConsistent d s → IsResting s → DoMovesFit d moves → (brought : ℕ → Bit) × AreEdgesKept d (edge_bit s.store) brought (opened d moves s) }
+    ensures after { (d : Netlist) (ranked : List ℕ) (opening brought : ℕ → Bit) (s : State) (event : Event) → IsAccepted d ranked → IsConsistent d s → AreEdgesKept d opening brought s → IsTrue (is_allowed s event) → AreEdgesKept d opening brought (after d s event) }
 {
     value_hangs_on_reads();
 }
