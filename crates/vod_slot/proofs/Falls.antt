@@ -51,11 +51,11 @@ pub pend-put_all : (d : Netlist) (writes : List Write) (st : State) → (put_all
 pend-put_all d [] st = refl
 pend-put_all d (w ∷ writes) st = pend-put_all d writes (put d w st)
 
-later-put_all : (d : Netlist) (writes : List Write) (st : State) → (put_all d writes st).later ≡ st.later
+pub later-put_all : (d : Netlist) (writes : List Write) (st : State) → (put_all d writes st).later ≡ st.later
 later-put_all d [] st = refl
 later-put_all d (w ∷ writes) st = later-put_all d writes (put d w st)
 
-now-put_all : (d : Netlist) (writes : List Write) (st : State) → (put_all d writes st).now ≡ st.now
+pub now-put_all : (d : Netlist) (writes : List Write) (st : State) → (put_all d writes st).now ≡ st.now
 now-put_all d [] st = refl
 now-put_all d (w ∷ writes) st = now-put_all d writes (put d w st)
 

@@ -17,3 +17,5 @@ pub mod Unique
 pub mod Links
 pub mod Edges
 pub mod Openings
+pub mod Room
+pub mod Rooms

@@ -144,10 +144,13 @@ upstream_path d ranked h (j ∷ js) rs each =
     let later = upstream_path d ranked h js rs each in
     All-append (IsPathRead d) (upstream d.drivers js rs) (reads_before (upstream d.drivers js rs) (slice_get d.drivers j)) later (before_on_path d ranked h (upstream d.drivers js rs) later j (slice_get d.drivers j) refl)
 
-class_edge : (d : Netlist) (class : Class) (n : ℕ) → class ≢ Data → FollowsClass d class n → IsPathRead d (Whole n)
-class_edge d class n apart f = record { net = n; is_whole = refl; is_edge = record { input = f.input; stands = f.stands; edge = λ e. apart (sym f.class_is ∙ e); follows = f.follows } }
+pub class_net : (d : Netlist) (class : Class) (n : ℕ) → class ≢ Data → FollowsClass d class n → IsEdgeNet d n
+class_net d class n apart f = record { input = f.input; stands = f.stands; edge = λ e. apart (sym f.class_is ∙ e); follows = f.follows }
 
-not_data : (class : Class) → is_data class ≡ false → class ≢ Data
+class_edge : (d : Netlist) (class : Class) (n : ℕ) → class ≢ Data → FollowsClass d class n → IsPathRead d (Whole n)
+class_edge d class n apart f = record { net = n; is_whole = refl; is_edge = class_net d class n apart f }
+
+pub not_data : (class : Class) → is_data class ≡ false → class ≢ Data
 not_data class h e = let clash : true ≡ false = sym (ap is_data e) ∙ h in cc
 
 reset_path : (d : Netlist) (b : Block) (reset : Option Edge) → BlockRuns d b reset → All (IsPathRead d) (reset_read reset)

@@ -147,7 +147,7 @@ same_bits-equal (a ∷ as_) (b ∷ bs) h =
     cc
 
 -- what is itself is the same
-same_bit-itself : (a : Bit) → same_bit a a ≡ true
+pub same_bit-itself : (a : Bit) → same_bit a a ≡ true
 same_bit-itself B0 = refl
 same_bit-itself B1 = refl
 same_bit-itself BX = refl

@@ -6,3 +6,4 @@ pub mod Settled
 pub mod Run
 pub mod Weight
 pub mod Edges
+pub mod Room

@@ -1,16 +1,18 @@
 //! What holds of the queue in every order of its events.
-ghost use Rattle.std.specs.Prelude.{◌≡◌, ◌⊎◌, ◌<◌, ◌≤◌, ◌+◌, ℕ, List, IsTrue, length, true, Some, slice_get};
+ghost use Rattle.std.specs.Prelude.{◌≡◌, ◌⊎◌, ◌<◌, ◌≤◌, ◌+◌, ◌*◌, ℕ, List, IsTrue, length, true, Some, slice_get};
 ghost use Rattle.vod_bits.specs.Bit.{Bit, BX, BZ};
+ghost use Rattle.vod_design.specs.declared.parts.Block.{Block};
 ghost use Rattle.vod_design.specs.declared.parts.Driver.{Driver};
 ghost use Rattle.vod_design.specs.declared.vector.Move.{Move};
 ghost use Rattle.vod_design.specs.declared.vector.Vector.{Vector};
 ghost use Rattle.vod_design.specs.Accepted.{IsAccepted};
 ghost use Rattle.vod_design.specs.Netlist.{Netlist};
-ghost use Rattle.vod_slot.specs.Store.{Write, brought};
+ghost use Rattle.vod_slot.specs.Store.{Write, brought, list_at};
 ghost use Rattle.vod_slot.specs.State.{State, flag_at, start_of, opened, IsResting};
 ghost use Rattle.vod_slot.specs.Step.{Event, is_allowed, after, put_all};
 ghost use Rattle.vod_slot.specs.Run.{Steps, Completes, IsRun};
 ghost use Rattle.vod_slot.specs.Edges.{edge_bit, AreEdgesKept, DoMovesFit};
+ghost use Rattle.vod_slot.specs.Room.{updates_room, statement_most, nets_of, IsRoomKept};
 ghost use Rattle.vod_slot.specs.Settled.{AgreeFirst, IsConsistent, IsSettled};
 ghost use Rattle.vod_slot.specs.Weight.{weight_of};
 
@@ -64,3 +66,12 @@ pub fn edge_nets_change_once()
 {
     value_hangs_on_reads();
 }
+
+/// At every moment of a slot the updates of a block, and those that it can still leave, take at most the room of what its body can leave
+/// for each of the nets that it waits for: none of these has two edges.
+pub fn updates_have_room()
+    ensures start { (d : Netlist) (opening : ℕ → Bit) → IsRoomKept d opening (start_of d) }
+    ensures opened { (d : Netlist) (opening : ℕ → Bit) (s : State) (moves : List Move) → IsResting s → IsRoomKept d opening (opened d moves s) }
+    ensures after { (d : Netlist) (ranked : List ℕ) (opening brought : ℕ → Bit) (s : State) (event : Event) → IsAccepted d ranked → IsConsistent d s → AreEdgesKept d opening brought s → IsTrue (is_allowed s event) → IsRoomKept d opening s → IsRoomKept d opening (after d s event) }
+    ensures suffices { (d : Netlist) (opening : ℕ → Bit) (s : State) (k : ℕ) (b : Block) → slice_get d.blocks k ≡ Some b → IsRoomKept d opening s → updates_room (list_at s.later k) + updates_room (list_at s.now k) ≤ statement_most b.body * length (nets_of b) }
+{}

@@ -7,5 +7,5 @@ mod laws;
 pub use crate::event::Event;
 pub use crate::laws::{
     changes_wake_readers, drivers_are_followed, edge_nets_change_once, every_order_ends,
-    registers_decide_nets,
+    registers_decide_nets, updates_have_room,
 };
