@@ -19,3 +19,4 @@ pub mod Edges
 pub mod Openings
 pub mod Room
 pub mod Rooms
+pub mod Calm

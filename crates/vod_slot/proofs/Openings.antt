@@ -93,7 +93,7 @@ given_missed d i n bit s st writes miss m same given =
     let moves : option_at (put_all d writes st).moves i ≡ option_at s.moves i = ap (λ xs. option_at xs i) (moves-put_all d writes st) ∙ m in
     ⊎_elim (λ l. inl (moves ∙ l)) (λ r. inr (moves ∙ r.0, bit_at-kept d writes st (lowest n) miss ∙ ap (λ store. edge_bit store n) same ∙ r.1)) given
 
-inputs_apart : (inputs : List Input) (i k : ℕ) (x y : Input) → AllPairs (λ a b. a.signal ≢ b.signal) inputs → slice_get inputs i ≡ Some x → slice_get inputs k ≡ Some y → i ≢ k → x.signal ≢ y.signal
+pub inputs_apart : (inputs : List Input) (i k : ℕ) (x y : Input) → AllPairs (λ a b. a.signal ≢ b.signal) inputs → slice_get inputs i ≡ Some x → slice_get inputs k ≡ Some y → i ≢ k → x.signal ≢ y.signal
 inputs_apart inputs i k x y once at at' apart =
     ⊎_elim
     (λ same. absurd (apart same))
@@ -180,12 +180,12 @@ given_end hangs d ranked h i x bit s t (event ∷ events) at net c steps given =
 
 -- a slot opens
 
-moves_at : {A : Type 0} (f : ℕ → Option (List Bit)) (m : ℕ) (xs : List A) (i : ℕ) (v : List Bit) → option_at (map (λ (e : ℕ × A). f e.0) (enumerate_from m xs)) i ≡ Some v → f (m + i) ≡ Some v
+pub moves_at : {A : Type 0} (f : ℕ → Option (List Bit)) (m : ℕ) (xs : List A) (i : ℕ) (v : List Bit) → option_at (map (λ (e : ℕ × A). f e.0) (enumerate_from m xs)) i ≡ Some v → f (m + i) ≡ Some v
 moves_at f m [] i v h = absurd (none_there v h)
 moves_at f m (x ∷ xs) zero v h = let same : m + 0 ≡ m = omega arith in ap f same ∙ h
 moves_at f m (x ∷ xs) (suc i) v h = let same : m + suc i ≡ m + 1 + i = omega arith in ap f same ∙ moves_at f (m + 1) xs i v h
 
-link_settled : (d : Netlist) (ranked : List ℕ) → IsAccepted d ranked → (s : State) → IsConsistent d s → IsSettled d s.store → (j from to : ℕ) (a : Driver) → IsLink d j a from to → edge_bit s.store to ≡ edge_bit s.store from
+pub link_settled : (d : Netlist) (ranked : List ℕ) → IsAccepted d ranked → (s : State) → IsConsistent d s → IsSettled d s.store → (j from to : ℕ) (a : Driver) → IsLink d j a from to → edge_bit s.store to ≡ edge_bit s.store from
 link_settled d ranked h s c settled j from to a l =
     let has : bits_at s.store a.target ≡ edge_bit s.store to ∷ [] = ap (bits_at s.store) (one_target d ranked h j from to a l) in
     let e : edge_bit s.store to ∷ [] ≡ edge_bit s.store from ∷ []

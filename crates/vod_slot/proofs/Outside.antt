@@ -188,7 +188,7 @@ begun_none true b statements h = absurd (cc)
 begun_none false b [] h = refl
 begun_none false b (s ∷ statements) h = refl
 
-triggered_none : (edge : Block → Bool) (blocks : List Block) (todo : List (List Statement)) → All (λ b. edge b ≡ false) blocks → triggered edge blocks todo ≡ todo
+pub triggered_none : (edge : Block → Bool) (blocks : List Block) (todo : List (List Statement)) → All (λ b. edge b ≡ false) blocks → triggered edge blocks todo ≡ todo
 triggered_none edge [] todo h = refl
 triggered_none edge (b ∷ blocks) [] h = refl
 triggered_none edge (b ∷ blocks) (statements ∷ todo) h =

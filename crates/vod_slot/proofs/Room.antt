@@ -197,7 +197,7 @@ reset_uses o e store w (Some x) b brings is =
     let none' : sum_by (opening_count o store) [] ≡ 0 = refl in
     omega arith
 
-start_uses : (o e : ℕ → Bit) (store : Store) (w : Write) (b : Block) → All (IsBetween o e store) (nets_of b) → All (λ n. Brings e n w) (nets_of b) → starts store w b ≡ true → openings o (written store w) (nets_of b) + 1 ≤ openings o store (nets_of b)
+pub start_uses : (o e : ℕ → Bit) (store : Store) (w : Write) (b : Block) → All (IsBetween o e store) (nets_of b) → All (λ n. Brings e n w) (nets_of b) → starts store w b ≡ true → openings o (written store w) (nets_of b) + 1 ≤ openings o store (nets_of b)
 start_uses o e store w b between brings is =
     let n = b.clock.signal in
     let nets = reset_nets b.reset in

@@ -43,7 +43,7 @@ reset_edges : (d : Netlist) (b : Block) (reset : Option Edge) → BlockRuns d b 
 reset_edges d b None h = all_none (IsEdgeNet d)
 reset_edges d b (Some x) h = all_one (IsEdgeNet d) x.signal (class_net d Reset x.signal (not_data Reset refl) h.reset_is)
 
-nets_edges : (d : Netlist) (ranked : List ℕ) → IsAccepted d ranked → (k : ℕ) (b : Block) → slice_get d.blocks k ≡ Some b → All (IsEdgeNet d) (nets_of b)
+pub nets_edges : (d : Netlist) (ranked : List ℕ) → IsAccepted d ranked → (k : ℕ) (b : Block) → slice_get d.blocks k ≡ Some b → All (IsEdgeNet d) (nets_of b)
 nets_edges d ranked h k b at =
     All-cons (IsEdgeNet d) b.clock.signal (reset_nets b.reset)
     (class_net d Clock b.clock.signal (not_data Clock refl) (all_at (λ (x : Block). FollowsClass d Clock x.clock.signal) d.blocks k b h.clocks at))
@@ -66,7 +66,7 @@ room_put d ranked h o e s st writes c kept same todo brings room k b at =
 all_miss : (e : ℕ → Bit) (n : ℕ) (writes : List Write) → All (Misses (lowest n)) writes → All (Brings e n) writes
 all_miss e n writes h = All-weaker (Misses (lowest n)) (Brings e n) (λ w m. inl m) writes h
 
-move_brings : (d : Netlist) (o e : ℕ → Bit) (s : State) (i : ℕ) (value : Option (List Bit)) → option_at s.moves i ≡ value → is_some value ≡ true → IsConsistent d s → AreEdgesKept d o e s → (n : ℕ) → IsEdgeNet d n →
+pub move_brings : (d : Netlist) (o e : ℕ → Bit) (s : State) (i : ℕ) (value : Option (List Bit)) → option_at s.moves i ≡ value → is_some value ≡ true → IsConsistent d s → AreEdgesKept d o e s → (n : ℕ) → IsEdgeNet d n →
     All (Brings e n) (bits_written (get_or (input_signals d.inputs) i 0) 0 (unwrap_or value []))
 move_brings d o e s i None is some c kept n net = absurd (cc)
 move_brings d o e s i (Some v) is some c kept n net =
@@ -81,7 +81,7 @@ move_brings d o e s i (Some v) is some c kept n net =
     (λ apart. all_miss e n (bits_written (get_or (input_signals d.inputs) i 0) 0 v) (bits-miss (lowest n) (get_or (input_signals d.inputs) i 0) 0 v (λ f. apart (sym signal ∙ f))))
     (cases_eq p.0.signal n)
 
-update_brings : (d : Netlist) (ranked : List ℕ) → IsAccepted d ranked → (o e : ℕ → Bit) (s : State) (j : ℕ) (driver : Option Driver) (value : Option (List Bit)) → slice_get d.drivers j ≡ driver → option_at s.pend j ≡ value → is_some value ≡ true → AreEdgesKept d o e s → (n : ℕ) → IsEdgeNet d n →
+pub update_brings : (d : Netlist) (ranked : List ℕ) → IsAccepted d ranked → (o e : ℕ → Bit) (s : State) (j : ℕ) (driver : Option Driver) (value : Option (List Bit)) → slice_get d.drivers j ≡ driver → option_at s.pend j ≡ value → is_some value ≡ true → AreEdgesKept d o e s → (n : ℕ) → IsEdgeNet d n →
     All (Brings e n) (places_written (target_of driver) (unwrap_or value []))
 update_brings d ranked h o e s j driver None at is some kept n net = absurd (cc)
 update_brings d ranked h o e s j None (Some v) at is some kept n net = all_none (Brings e n)
@@ -197,7 +197,7 @@ IsRoomKept-after d ranked o e s (Perform m) h c kept allowed room =
 
 -- as a slot opens
 
-openings_at_most : (o : ℕ → Bit) (store : Store) (nets : List ℕ) → openings o store nets ≤ length nets
+pub openings_at_most : (o : ℕ → Bit) (store : Store) (nets : List ℕ) → openings o store nets ≤ length nets
 openings_at_most o store [] = omega arith
 openings_at_most o store (n ∷ nets) =
     let e = sum_by-cons (opening_count o store) n nets in

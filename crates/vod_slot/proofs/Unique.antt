@@ -32,7 +32,7 @@ use Rattle.vod_slot.proofs.Paths.{place_in, stands_at}
 use Rattle.vod_slot.proofs.Followed.{settled_at_rest}
 
 -- values of one size with the same bits
-value_ext : (u v : List Bit) → length u ≡ length v → ((b : ℕ) → b < length u → bit_in u b ≡ bit_in v b) → u ≡ v
+pub value_ext : (u v : List Bit) → length u ≡ length v → ((b : ℕ) → b < length u → bit_in u b ≡ bit_in v b) → u ≡ v
 value_ext u v len same =
     ext_get_or BX u v len
     (λ i h.
