@@ -43,7 +43,7 @@ pub moves-put_all : (d : Netlist) (writes : List Write) (st : State) → (put_al
 moves-put_all d [] st = refl
 moves-put_all d (w ∷ writes) st = moves-put_all d writes (put d w st)
 
-init-put_all : (d : Netlist) (writes : List Write) (st : State) → (put_all d writes st).init ≡ st.init
+pub init-put_all : (d : Netlist) (writes : List Write) (st : State) → (put_all d writes st).init ≡ st.init
 init-put_all d [] st = refl
 init-put_all d (w ∷ writes) st = init-put_all d writes (put d w st)
 

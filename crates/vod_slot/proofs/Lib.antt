@@ -20,3 +20,4 @@ pub mod Openings
 pub mod Room
 pub mod Rooms
 pub mod Calm
+pub mod Data

@@ -214,7 +214,7 @@ follows_net d ranked h input stands n (copied {from = from} {to = to} {a = c} is
     first_net [] some drive same = absurd (omega arith)
     first_net (b ∷ places) some drive same = subst (IsNet d) (same b (stands_at (b ∷ places) 0 b refl)) (All-head (IsToDrive d) b places drive).net
 
-not_register : (d : Netlist) (n : ℕ) → IsNet d n → IsRegister d n → ⊥
+pub not_register : (d : Netlist) (n : ℕ) → IsNet d n → IsRegister d n → ⊥
 not_register d n net register = let e : Some true ≡ Some false = sym register ∙ net in let clash : true ≡ false = same_Some true false e in cc
 
 pub register_outside : (d : Netlist) (ranked : List ℕ) → IsAccepted d ranked → (n place : ℕ) (bit : Bit) → IsRegister d n → IsOutside d ranked (ToBit n place bit)

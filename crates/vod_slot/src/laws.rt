@@ -10,7 +10,7 @@ ghost use Rattle.vod_design.specs.Netlist.{Netlist};
 ghost use Rattle.vod_slot.specs.Store.{Write, brought, list_at};
 ghost use Rattle.vod_slot.specs.State.{State, flag_at, start_of, opened, IsResting};
 ghost use Rattle.vod_slot.specs.Step.{Event, is_allowed, after, put_all};
-ghost use Rattle.vod_slot.specs.Run.{Steps, Completes, IsRun};
+ghost use Rattle.vod_slot.specs.Run.{Steps, Completes, IsSlot, IsRun, ChangesData};
 ghost use Rattle.vod_slot.specs.Edges.{edge_bit, AreEdgesKept, DoMovesFit};
 ghost use Rattle.vod_slot.specs.Room.{updates_room, statement_most, nets_of, IsRoomKept};
 ghost use Rattle.vod_slot.specs.Settled.{AgreeFirst, IsConsistent, IsSettled};
@@ -75,3 +75,10 @@ pub fn updates_have_room()
     ensures after { (d : Netlist) (ranked : List ℕ) (opening brought : ℕ → Bit) (s : State) (event : Event) → IsAccepted d ranked → IsConsistent d s → AreEdgesKept d opening brought s → IsTrue (is_allowed s event) → IsRoomKept d opening s → IsRoomKept d opening (after d s event) }
     ensures suffices { (d : Netlist) (opening : ℕ → Bit) (s : State) (k : ℕ) (b : Block) → slice_get d.blocks k ≡ Some b → IsRoomKept d opening s → updates_room (list_at s.later k) + updates_room (list_at s.now k) ≤ statement_most b.body * length (nets_of b) }
 {}
+
+/// Whatever order of events was taken, a slot that changes data alone ends in one state.
+pub fn data_slots_end_alike()
+    ensures { (d : Netlist) (ranked : List ℕ) (s t u : State) (moves : List Move) → IsAccepted d ranked → IsConsistent d s → DoMovesFit d moves → ChangesData d s moves → IsSlot d s moves t → IsSlot d s moves u → t ≡ u }
+{
+    value_hangs_on_reads();
+}
