@@ -130,11 +130,11 @@ OfNet d (ToWord memory place word) = ⊥
 -- a write of another signal
 abbrev pub OfOther : ℕ → Write → Type 0
 OfOther n (ToBit m place bit) = m ≢ n
-OfOther n (ToWord memory place word) = ⊥
+OfOther n (ToWord memory place word) = Unit {0}
 
 other_kept : (store : Store) (n : ℕ) (w : Write) → OfOther n w → value_at BX (written store w).signals n ≡ value_at BX store.signals n
 other_kept store n (ToBit m place bit) apart = get_or-set_other store.signals m n (bit_replaced place bit (value_at BX store.signals m)) (BX ∷ []) (λ e. apart (sym e))
-other_kept store n (ToWord memory place word) apart = absurd apart
+other_kept store n (ToWord memory place word) apart = refl
 
 pub others_kept : (d : Netlist) (writes : List Write) (st : State) (n : ℕ) → All (OfOther n) writes → value_at BX (put_all d writes st).store.signals n ≡ value_at BX st.store.signals n
 others_kept d [] st n h = refl
@@ -150,7 +150,7 @@ memories_kept d (w ∷ writes) st h = memories_kept d writes (put d w st) (All-t
 
 pub register_other : (d : Netlist) (n : ℕ) (w : Write) → IsRegister d n → OfNet d w → OfOther n w
 register_other d n (ToBit m place bit) register net = λ same. not_register d n (subst (IsNet d) same net) register
-register_other d n (ToWord memory place word) register net = net
+register_other d n (ToWord memory place word) register net = tt
 
 pub bits_of : (P : Write → Type 0) (n low : ℕ) (bits : List Bit) → ((place : ℕ) (bit : Bit) → P (ToBit n place bit)) → All P (bits_written n low bits)
 bits_of P n low [] each = all_none P

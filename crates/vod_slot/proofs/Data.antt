@@ -37,10 +37,10 @@ use Rattle.vod_slot.proofs.Rooms.{move_brings, update_brings}
 use Rattle.vod_slot.proofs.Calm.{IsCalm, OfNet, OfOther, edges_still, todo_still, nothing_filled, nothing_any, others_kept, memories_kept, bits_of, places_of, value_holds}
 
 -- what an input has at the end
-abbrev wanted : List Move → Store → ℕ → Input → List Bit
+abbrev pub wanted : List Move → Store → ℕ → Input → List Bit
 wanted moves store i x = unwrap_or (assigned moves i) (value_at BX store.signals x.signal)
 
-abbrev IsGiven : ℕ → Input → List Bit → State → Type 0
+abbrev pub IsGiven : ℕ → Input → List Bit → State → Type 0
 IsGiven i x v st = (option_at st.moves i ≡ Some v) ⊎ ((option_at st.moves i ≡ None) × (value_at BX st.store.signals x.signal ≡ v))
 
 -- what each state of such a slot keeps
@@ -62,16 +62,16 @@ calm_put d writes s st calm i t l n = record {
   now = rw (now-put_all d writes st, n) calm.now;
 }
 
-wanted_size : (d : Netlist) (s : State) (moves : List Move) (i : ℕ) (x : Input) (o : Option (List Bit)) → assigned moves i ≡ o → DoMovesFit d moves → IsConsistent d s → slice_get d.inputs i ≡ Some x → x.signal < length d.signals → length (unwrap_or o (value_at BX s.store.signals x.signal)) ≡ signal_width d x.signal
+pub wanted_size : (d : Netlist) (s : State) (moves : List Move) (i : ℕ) (x : Input) (o : Option (List Bit)) → assigned moves i ≡ o → DoMovesFit d moves → IsConsistent d s → slice_get d.inputs i ≡ Some x → x.signal < length d.signals → length (unwrap_or o (value_at BX s.store.signals x.signal)) ≡ signal_width d x.signal
 wanted_size d s moves i x None is fit c at lt = value_size s.store d x.signal c.shaped.sizes lt
 wanted_size d s moves i x (Some v) is fit c at lt = fit i x v at is
 
-net_within : (signals : List Signal) (n : ℕ) (b : Bool) → option_map (λ (s : Signal). s.register) (slice_get signals n) ≡ Some b → n < length signals
+pub net_within : (signals : List Signal) (n : ℕ) (b : Bool) → option_map (λ (s : Signal). s.register) (slice_get signals n) ≡ Some b → n < length signals
 net_within [] n b h = absurd (none_there b h)
 net_within (s ∷ signals) zero b h = omega arith
 net_within (s ∷ signals) (suc n) b h = let l = net_within signals n b h in omega arith
 
-input_net : (d : Netlist) (ranked : List ℕ) → IsAccepted d ranked → (i : ℕ) (x : Input) → slice_get d.inputs i ≡ Some x → IsNet d x.signal
+pub input_net : (d : Netlist) (ranked : List ℕ) → IsAccepted d ranked → (i : ℕ) (x : Input) → slice_get d.inputs i ≡ Some x → IsNet d x.signal
 input_net d ranked h i x at = all_at (λ (y : Input). IsNet d y.signal) d.inputs i x h.flat.inputs at
 
 taken : (d : Netlist) (ranked : List ℕ) → IsAccepted d ranked → (s : State) (moves : List Move) (st : State) (k : ℕ) → DoMovesFit d moves → IsConsistent d s → IsConsistent d st → is_some (option_at st.moves k) ≡ true → AreEdgesKept d (edge_bit s.store) (edge_bit s.store) (after d st (TakeMove k)) → IsData d s moves st → IsData d s moves (after d st (TakeMove k))
@@ -112,7 +112,7 @@ taken d ranked h s moves st k fit cs c allowed edges data_ =
           (cases_eq k i);
     }
 
-input_is : (d : Netlist) (i : ℕ) (x : Input) → slice_get d.inputs i ≡ Some x → IsInput d x.signal
+pub input_is : (d : Netlist) (i : ℕ) (x : Input) → slice_get d.inputs i ≡ Some x → IsInput d x.signal
 input_is d i x at = stands_at (map (λ (y : Input). y.signal) d.inputs) i x.signal (mapped d.inputs i at)
   where
     mapped : (inputs : List Input) (i : ℕ) → slice_get inputs i ≡ Some x → slice_get (map (λ (y : Input). y.signal) inputs) i ≡ Some x.signal
@@ -164,12 +164,12 @@ data_end hangs d ranked h s moves st t (event ∷ events) fit cs c steps data_ =
     let edges = AreEdgesKept-after d ranked (edge_bit s.store) (edge_bit s.store) st event h c data_.edges steps.0 in
     data_end hangs d ranked h s moves (after d st event) t events fit cs next steps.1 (data_after d ranked h s moves st event fit cs c steps.0 edges data_)
 
-opened_at : {A : Type 0} (f : ℕ → Option (List Bit)) (m : ℕ) (xs : List A) (i : ℕ) → i < length xs → option_at (map (λ (e : ℕ × A). f e.0) (enumerate_from m xs)) i ≡ f (m + i)
+pub opened_at : {A : Type 0} (f : ℕ → Option (List Bit)) (m : ℕ) (xs : List A) (i : ℕ) → i < length xs → option_at (map (λ (e : ℕ × A). f e.0) (enumerate_from m xs)) i ≡ f (m + i)
 opened_at f m [] i h = absurd (omega arith)
 opened_at f m (x ∷ xs) zero h = let same : m + 0 ≡ m = omega arith in sym (ap f same)
 opened_at f m (x ∷ xs) (suc i) h = let same : m + suc i ≡ m + 1 + i = omega arith in opened_at f (m + 1) xs i (omega arith) ∙ sym (ap f same)
 
-given_first : (moves : List Move) (s st : State) (i : ℕ) (x : Input) (o : Option (List Bit)) → assigned moves i ≡ o → option_at st.moves i ≡ assigned moves i → st.store ≡ s.store → IsGiven i x (unwrap_or o (value_at BX s.store.signals x.signal)) st
+pub given_first : (moves : List Move) (s st : State) (i : ℕ) (x : Input) (o : Option (List Bit)) → assigned moves i ≡ o → option_at st.moves i ≡ assigned moves i → st.store ≡ s.store → IsGiven i x (unwrap_or o (value_at BX s.store.signals x.signal)) st
 given_first moves s st i x None is m same = inr (m ∙ is, ap (λ (q : Store). value_at BX q.signals x.signal) same)
 given_first moves s st i x (Some v) is m same = inl (m ∙ is)
 
@@ -184,7 +184,7 @@ data_opened d ranked h s moves c rests changes = record {
       given_first moves s (opened d moves s) i x (assigned moves i) refl (opened_at (assigned moves) 0 d.inputs i (slice_get_within d.inputs i x at) ∙ ap (assigned moves) same) refl;
 }
 
-unmapped : (inputs : List Input) (i n : ℕ) → slice_get (map (λ (y : Input). y.signal) inputs) i ≡ Some n → (k : ℕ) × (x : Input) × (slice_get inputs k ≡ Some x) × (x.signal ≡ n)
+pub unmapped : (inputs : List Input) (i n : ℕ) → slice_get (map (λ (y : Input). y.signal) inputs) i ≡ Some n → (k : ℕ) × (x : Input) × (slice_get inputs k ≡ Some x) × (x.signal ≡ n)
 unmapped [] i n at = absurd (none_there n at)
 unmapped (y ∷ inputs) zero n at = (0, y, refl, same_Some y.signal n at)
 unmapped (y ∷ inputs) (suc i) n at = let p = unmapped inputs i n at in (suc p.0, p.1, p.2, p.3)

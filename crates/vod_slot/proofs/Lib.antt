@@ -21,3 +21,4 @@ pub mod Room
 pub mod Rooms
 pub mod Calm
 pub mod Data
+pub mod Inputs

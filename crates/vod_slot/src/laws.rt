@@ -1,12 +1,15 @@
 //! What holds of the queue in every order of its events.
-ghost use Rattle.std.specs.Prelude.{◌≡◌, ◌⊎◌, ◌<◌, ◌≤◌, ◌+◌, ◌*◌, ℕ, List, IsTrue, length, true, Some, slice_get};
+ghost use Rattle.std.specs.Prelude.{◌≡◌, ◌⊎◌, ◌<◌, ◌≤◌, ◌+◌, ◌*◌, ℕ, List, IsTrue, length, true, Some, slice_get, unwrap_or};
 ghost use Rattle.vod_bits.specs.Bit.{Bit, BX, BZ};
 ghost use Rattle.vod_design.specs.declared.parts.Block.{Block};
 ghost use Rattle.vod_design.specs.declared.parts.Driver.{Driver};
+ghost use Rattle.vod_design.specs.declared.parts.Input.{Input};
 ghost use Rattle.vod_design.specs.declared.vector.Move.{Move};
 ghost use Rattle.vod_design.specs.declared.vector.Vector.{Vector};
 ghost use Rattle.vod_design.specs.Accepted.{IsAccepted};
+ghost use Rattle.vod_design.specs.Lawful.{assigned};
 ghost use Rattle.vod_design.specs.Netlist.{Netlist};
+ghost use Rattle.vod_design.specs.Values.{value_at};
 ghost use Rattle.vod_slot.specs.Store.{Write, brought, list_at};
 ghost use Rattle.vod_slot.specs.State.{State, flag_at, start_of, opened, IsResting};
 ghost use Rattle.vod_slot.specs.Step.{Event, is_allowed, after, put_all};
@@ -79,6 +82,13 @@ pub fn updates_have_room()
 /// Whatever order of events was taken, a slot that changes data alone ends in one state.
 pub fn data_slots_end_alike()
     ensures { (d : Netlist) (ranked : List ℕ) (s t u : State) (moves : List Move) → IsAccepted d ranked → IsConsistent d s → DoMovesFit d moves → ChangesData d s moves → IsSlot d s moves t → IsSlot d s moves u → t ≡ u }
+{
+    value_hangs_on_reads();
+}
+
+/// After a slot each input has what it was assigned, and one that wasn't has what it had.
+pub fn inputs_take_moves()
+    ensures { (d : Netlist) (ranked : List ℕ) (s t : State) (moves : List Move) (i : ℕ) (x : Input) → IsAccepted d ranked → IsConsistent d s → DoMovesFit d moves → IsSlot d s moves t → slice_get d.inputs i ≡ Some x → value_at BX t.store.signals x.signal ≡ unwrap_or (assigned moves i) (value_at BX s.store.signals x.signal) }
 {
     value_hangs_on_reads();
 }
