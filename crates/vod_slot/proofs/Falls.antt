@@ -39,23 +39,23 @@ drivers_fall u' u b s' s l' l p same same' lt = rw (same, same') (omega arith)
 
 -- what writes leave
 
-moves-put_all : (d : Netlist) (writes : List Write) (st : State) → (put_all d writes st).moves ≡ st.moves
+pub moves-put_all : (d : Netlist) (writes : List Write) (st : State) → (put_all d writes st).moves ≡ st.moves
 moves-put_all d [] st = refl
 moves-put_all d (w ∷ writes) st = moves-put_all d writes (put d w st)
 
-init-put_all : (d : Netlist) (writes : List Write) (st : State) → (put_all d writes st).init ≡ st.init
+pub init-put_all : (d : Netlist) (writes : List Write) (st : State) → (put_all d writes st).init ≡ st.init
 init-put_all d [] st = refl
 init-put_all d (w ∷ writes) st = init-put_all d writes (put d w st)
 
-pend-put_all : (d : Netlist) (writes : List Write) (st : State) → (put_all d writes st).pend ≡ st.pend
+pub pend-put_all : (d : Netlist) (writes : List Write) (st : State) → (put_all d writes st).pend ≡ st.pend
 pend-put_all d [] st = refl
 pend-put_all d (w ∷ writes) st = pend-put_all d writes (put d w st)
 
-later-put_all : (d : Netlist) (writes : List Write) (st : State) → (put_all d writes st).later ≡ st.later
+pub later-put_all : (d : Netlist) (writes : List Write) (st : State) → (put_all d writes st).later ≡ st.later
 later-put_all d [] st = refl
 later-put_all d (w ∷ writes) st = later-put_all d writes (put d w st)
 
-now-put_all : (d : Netlist) (writes : List Write) (st : State) → (put_all d writes st).now ≡ st.now
+pub now-put_all : (d : Netlist) (writes : List Write) (st : State) → (put_all d writes st).now ≡ st.now
 now-put_all d [] st = refl
 now-put_all d (w ∷ writes) st = now-put_all d writes (put d w st)
 

@@ -105,7 +105,7 @@ updated hangs d ranked s j accepted shaped some followed k a at =
     missed (Some c) is apart = places_miss a.target c.target (unwrap_or (option_at s.pend j) []) (targets_apart d ranked accepted j k c a is at apart)
 
 -- what an evaluation leaves
-pends : (new old : List Bit) (b : Bool) → same_bits old new ≡ b → ((if b then None else Some new) ≡ Some new) ⊎ (((if b then None else Some new) ≡ None) × (old ≡ new))
+pub pends : (new old : List Bit) (b : Bool) → same_bits old new ≡ b → ((if b then None else Some new) ≡ Some new) ⊎ (((if b then None else Some new) ≡ None) × (old ≡ new))
 pends new old true is = inr (refl, same_bits-equal old new is)
 pends new old false is = inl refl
 

@@ -14,3 +14,11 @@ pub mod Outside
 pub mod Falls
 pub mod Ends
 pub mod Unique
+pub mod Links
+pub mod Edges
+pub mod Openings
+pub mod Room
+pub mod Rooms
+pub mod Calm
+pub mod Data
+pub mod Inputs

@@ -188,7 +188,7 @@ begun_none true b statements h = absurd (cc)
 begun_none false b [] h = refl
 begun_none false b (s ∷ statements) h = refl
 
-triggered_none : (edge : Block → Bool) (blocks : List Block) (todo : List (List Statement)) → All (λ b. edge b ≡ false) blocks → triggered edge blocks todo ≡ todo
+pub triggered_none : (edge : Block → Bool) (blocks : List Block) (todo : List (List Statement)) → All (λ b. edge b ≡ false) blocks → triggered edge blocks todo ≡ todo
 triggered_none edge [] todo h = refl
 triggered_none edge (b ∷ blocks) [] h = refl
 triggered_none edge (b ∷ blocks) (statements ∷ todo) h =
@@ -203,7 +203,7 @@ todo_kept d ranked (w ∷ writes) st out =
     ∙ triggered_none (starts st.store w) d.blocks st.todo (no_start st.store w d.blocks (upstream_keeps d.drivers ranked (awaited d.blocks) (touches w) (All-head (IsOutside d ranked) w writes out)))
 
 -- registers and words are outside
-follows_net : (d : Netlist) (ranked : List ℕ) → IsAccepted d ranked → (input : Input) → Contains d.inputs input → (n : ℕ) → Follows d input.signal n → IsNet d n
+pub follows_net : (d : Netlist) (ranked : List ℕ) → IsAccepted d ranked → (input : Input) → Contains d.inputs input → (n : ℕ) → Follows d input.signal n → IsNet d n
 follows_net d ranked h input stands n itself = All-contains (λ (i : Input). IsNet d i.signal) d.inputs input h.flat.inputs stands
 follows_net d ranked h input stands n (copied {from = from} {to = to} {a = c} is_driver copies follows) =
     let place = place_in d.drivers c is_driver in
@@ -214,7 +214,7 @@ follows_net d ranked h input stands n (copied {from = from} {to = to} {a = c} is
     first_net [] some drive same = absurd (omega arith)
     first_net (b ∷ places) some drive same = subst (IsNet d) (same b (stands_at (b ∷ places) 0 b refl)) (All-head (IsToDrive d) b places drive).net
 
-not_register : (d : Netlist) (n : ℕ) → IsNet d n → IsRegister d n → ⊥
+pub not_register : (d : Netlist) (n : ℕ) → IsNet d n → IsRegister d n → ⊥
 not_register d n net register = let e : Some true ≡ Some false = sym register ∙ net in let clash : true ≡ false = same_Some true false e in cc
 
 pub register_outside : (d : Netlist) (ranked : List ℕ) → IsAccepted d ranked → (n place : ℕ) (bit : Bit) → IsRegister d n → IsOutside d ranked (ToBit n place bit)

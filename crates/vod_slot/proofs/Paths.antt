@@ -26,7 +26,7 @@ use Rattle.vod_design.specs.Accepted.{IsAccepted, IsToDrive, BlockRuns}
 use Rattle.vod_design.specs.Flat.{DriverFits}
 use Rattle.vod_design.specs.Feeds.{is_read, feeds}
 use Rattle.vod_design.specs.Netlist.{Netlist, signal_width}
-use Rattle.vod_design.specs.Nets.{IsBit, Follows, itself, copied, FollowsClass, IsEdgeNet}
+use Rattle.vod_design.specs.Nets.{IsBit, Follows, itself, copied, FollowsClass, IsEdgeNet, Copies}
 use Rattle.vod_design.specs.Image.{is_data}
 use Rattle.vod_design.specs.Reads.{kind_reads, reads}
 use Rattle.vod_slot.specs.Weight.{reset_read, awaited, writes_read, reads_before, upstream, edge_path}
@@ -69,13 +69,14 @@ same_place : (b c : Place) → b.signal ≡ c.signal → b.bit ≡ c.bit → b �
 same_place b c e f = let p : Place = record { signal = b.signal; bit = c.bit } in let q : b ≡ p = ap (λ n. place_of b.signal n) f in let r : p ≡ c = ap (λ n. place_of n c.bit) e in q ∙ r
 
 -- where a net stands that a driver drives, and what that driver is
-pub record IsCopied (d : Netlist) (a : Driver) : Type 0 where
+pub record IsCopied (d : Netlist) (a : Driver) (to : ℕ) : Type 0 where
   pub from : ℕ
   pub reads_it : reads a.value ≡ Whole from ∷ []
   pub net : IsEdgeNet d from
+  pub copies : Copies from to a
 
 copies_net : (d : Netlist) (ranked : List ℕ) → IsAccepted d ranked → (k : ℕ) (a : Driver) (p : Place) → slice_get d.drivers k ≡ Some a → Contains a.target p →
-    (input : Input) → Contains d.inputs input → input.class ≢ Data → (n : ℕ) → n ≡ p.signal → Follows d input.signal n → IsCopied d a
+    (input : Input) → Contains d.inputs input → input.class ≢ Data → (n : ℕ) → n ≡ p.signal → Follows d input.signal n → IsCopied d a p.signal
 copies_net d ranked h k a p at in_target input stands edge n is itself =
     let drive : IsToDrive d p = All-contains (IsToDrive d) a.target p (to_drive d ranked h k a at) in_target in
     absurd (drive.free (subst (Contains (map (λ (i : Input). i.signal) d.inputs)) is (stands_mapped (λ (i : Input). i.signal) d.inputs input stands)))
@@ -100,11 +101,12 @@ copies_net d ranked h k a p at in_target input stands edge n is (copied {from = 
       from = from;
       reads_it = subst (λ (x : Driver). reads x.value ≡ Whole from ∷ []) c_is (bit_reads from c.value copies.value);
       net = record { input = input; stands = stands; edge = edge; follows = follows };
+      copies = subst (Copies from p.signal) c_is (subst (λ m. Copies from m c) is copies);
     })
     (λ apart. absurd (All-contains (λ (x : Place). x ≢ p) c.target b (All-contains (λ (y : Place). All (λ (x : Place). x ≢ y) c.target) a.target p (targets_apart d ranked h place.0 k c a place.1 at apart) in_target) holds_b same))
     (cases_eq place.0 k)
 
-pub edge_driver : (d : Netlist) (ranked : List ℕ) → IsAccepted d ranked → (k : ℕ) (a : Driver) (p : Place) → slice_get d.drivers k ≡ Some a → Contains a.target p → IsEdgeNet d p.signal → IsCopied d a
+pub edge_driver : (d : Netlist) (ranked : List ℕ) → IsAccepted d ranked → (k : ℕ) (a : Driver) (p : Place) → slice_get d.drivers k ≡ Some a → Contains a.target p → IsEdgeNet d p.signal → IsCopied d a p.signal
 edge_driver d ranked h k a p at in_target net = copies_net d ranked h k a p at in_target net.input net.stands net.edge p.signal refl net.follows
 
 -- what is read on the path are edge nets
@@ -142,10 +144,13 @@ upstream_path d ranked h (j ∷ js) rs each =
     let later = upstream_path d ranked h js rs each in
     All-append (IsPathRead d) (upstream d.drivers js rs) (reads_before (upstream d.drivers js rs) (slice_get d.drivers j)) later (before_on_path d ranked h (upstream d.drivers js rs) later j (slice_get d.drivers j) refl)
 
-class_edge : (d : Netlist) (class : Class) (n : ℕ) → class ≢ Data → FollowsClass d class n → IsPathRead d (Whole n)
-class_edge d class n apart f = record { net = n; is_whole = refl; is_edge = record { input = f.input; stands = f.stands; edge = λ e. apart (sym f.class_is ∙ e); follows = f.follows } }
+pub class_net : (d : Netlist) (class : Class) (n : ℕ) → class ≢ Data → FollowsClass d class n → IsEdgeNet d n
+class_net d class n apart f = record { input = f.input; stands = f.stands; edge = λ e. apart (sym f.class_is ∙ e); follows = f.follows }
 
-not_data : (class : Class) → is_data class ≡ false → class ≢ Data
+class_edge : (d : Netlist) (class : Class) (n : ℕ) → class ≢ Data → FollowsClass d class n → IsPathRead d (Whole n)
+class_edge d class n apart f = record { net = n; is_whole = refl; is_edge = class_net d class n apart f }
+
+pub not_data : (class : Class) → is_data class ≡ false → class ≢ Data
 not_data class h e = let clash : true ≡ false = sym (ap is_data e) ∙ h in cc
 
 reset_path : (d : Netlist) (b : Block) (reset : Option Edge) → BlockRuns d b reset → All (IsPathRead d) (reset_read reset)

@@ -77,7 +77,7 @@ bits_at-kept d writes st (b ∷ places) h =
 abbrev place_of : ℕ → ℕ → Place
 place_of signal bit = record { signal = signal; bit = bit }
 
-place_same : (b c : Place) → b.signal ≡ c.signal → b.bit ≡ c.bit → b ≡ c
+pub place_same : (b c : Place) → b.signal ≡ c.signal → b.bit ≡ c.bit → b ≡ c
 place_same b c e f = let p : Place = record { signal = b.signal; bit = c.bit } in let q : b ≡ p = ap (λ n. place_of b.signal n) f in let r : p ≡ c = ap (λ n. place_of n c.bit) e in q ∙ r
 
 pub misses_other : (b c : Place) (bit : Bit) → b ≢ c → Misses c (ToBit b.signal b.bit bit)

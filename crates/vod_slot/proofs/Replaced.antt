@@ -145,3 +145,14 @@ same_bits-equal (a ∷ as_) (b ∷ bs) h =
     let here = same_bit-equal a b p.0 in
     let more = same_bits-equal as_ bs p.1 in
     cc
+
+-- what is itself is the same
+pub same_bit-itself : (a : Bit) → same_bit a a ≡ true
+same_bit-itself B0 = refl
+same_bit-itself B1 = refl
+same_bit-itself BX = refl
+same_bit-itself BZ = refl
+
+pub same_bits-itself : (as_ : List Bit) → same_bits as_ as_ ≡ true
+same_bits-itself [] = refl
+same_bits-itself (a ∷ as_) = rw (same_bit-itself a) (same_bits-itself as_)

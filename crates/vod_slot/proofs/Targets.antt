@@ -82,10 +82,10 @@ target_misses d b (Some (Bits (variable.Signal n) low)) value net h = register_m
 target_misses d b (Some (Bits (variable.Local n) low)) value net h = all_none (Misses b)
 target_misses d b (Some (Word memory place)) value net h = all_one (Misses b) (ToWord memory place value) tt
 
-update_misses : (d : Netlist) (b : Place) (u : Update) → IsNet d b.signal → UpdateWrites d u → All (Misses b) (update_written u)
+pub update_misses : (d : Netlist) (b : Place) (u : Update) → IsNet d b.signal → UpdateWrites d u → All (Misses b) (update_written u)
 update_misses d b u net h = all_flat (λ (p : Piece). TargetWrites d p.target) (Misses b) (λ p. target_written p.target p.value) u (λ p writes. target_misses d b p.target p.value net writes) h
 
-initial_misses : (d : Netlist) (b : Place) (t : InitialTarget) (value : List Bit) → IsNet d b.signal → InitialWrites d t → All (Misses b) (initial_written t value)
+pub initial_misses : (d : Netlist) (b : Place) (t : InitialTarget) (value : List Bit) → IsNet d b.signal → InitialWrites d t → All (Misses b) (initial_written t value)
 initial_misses d b (initial.Register n) value net h = register_misses d b n 0 value net h
 initial_misses d b (initial.Word memory place) value net h = all_one (Misses b) (ToWord memory place value) tt
 

@@ -32,7 +32,7 @@ use Rattle.vod_slot.proofs.Paths.{place_in, stands_at}
 use Rattle.vod_slot.proofs.Followed.{settled_at_rest}
 
 -- values of one size with the same bits
-value_ext : (u v : List Bit) → length u ≡ length v → ((b : ℕ) → b < length u → bit_in u b ≡ bit_in v b) → u ≡ v
+pub value_ext : (u v : List Bit) → length u ≡ length v → ((b : ℕ) → b < length u → bit_in u b ≡ bit_in v b) → u ≡ v
 value_ext u v len same =
     ext_get_or BX u v len
     (λ i h.
@@ -66,7 +66,7 @@ select_ext low width u v len same =
     (cases_lt (length u) (low + width))
 
 -- a bit that there is: of a register, of an input, or of a driver's target
-is_input_test : (inputs : List Input) (n : ℕ) → Contains (map (λ (i : Input). i.signal) inputs) n ⊎ (Contains (map (λ (i : Input). i.signal) inputs) n → ⊥)
+pub is_input_test : (inputs : List Input) (n : ℕ) → Contains (map (λ (i : Input). i.signal) inputs) n ⊎ (Contains (map (λ (i : Input). i.signal) inputs) n → ⊥)
 is_input_test inputs n = member (map (λ (i : Input). i.signal) inputs)
   where
     member : (ns : List ℕ) → Contains ns n ⊎ (Contains ns n → ⊥)
@@ -131,7 +131,7 @@ bit_agrees d ranked h s t stores n b within inside driven =
     (is_input_test d.inputs n))
     (register_or_net d.signals n within)
 
-value_size : (store : Store) (d : Netlist) (n : ℕ) → sizes store ≡ widths d → n < length d.signals → length (value_at BX store.signals n) ≡ signal_width d n
+pub value_size : (store : Store) (d : Netlist) (n : ℕ) → sizes store ≡ widths d → n < length d.signals → length (value_at BX store.signals n) ≡ signal_width d n
 value_size store d n same h =
     let e : get_or (map length store.signals) n 0 ≡ get_or (map (λ (s : Signal). s.width) d.signals) n 0 = ap (λ ns. get_or ns n 0) same in
     let l : length store.signals ≡ length d.signals = sym (length-map store.signals length) ∙ ap length same ∙ length-map d.signals (λ (s : Signal). s.width) in

@@ -5,3 +5,5 @@ pub mod Shape
 pub mod Settled
 pub mod Run
 pub mod Weight
+pub mod Edges
+pub mod Room

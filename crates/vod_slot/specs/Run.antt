@@ -1,8 +1,13 @@
 -- Steps in any order, slots and runs (IEEE 1364-2005, 11.4).
-use Rattle.std.specs.Prelude.{◌≡◌, List, [], ◌∷◌, IsTrue}
+use Rattle.std.specs.Prelude.{◌≡◌, ◌⊎◌, ℕ, List, [], ◌∷◌, IsTrue, Some, slice_get}
+use Rattle.vod_bits.specs.Bit.{Bit, BX}
+use Rattle.vod_design.specs.declared.parts.Input.{Input}
+use Rattle.vod_design.specs.declared.vector.Class.TheVariants.{Data}
 use Rattle.vod_design.specs.declared.vector.Move.{Move}
 use Rattle.vod_design.specs.declared.vector.Vector.{Vector}
+use Rattle.vod_design.specs.Lawful.{assigned}
 use Rattle.vod_design.specs.Netlist.{Netlist}
+use Rattle.vod_design.specs.Values.{value_at}
 use Rattle.vod_slot.specs.State.{State, start_of, opened, IsResting}
 use Rattle.vod_slot.specs.Step.{Event, is_allowed, after}
 
@@ -33,3 +38,7 @@ AreSlots d s (v ∷ vs) (t ∷ ts) = IsSlot d s v.moves t × AreSlots d t vs ts
 pub record IsRun (d : Netlist) (vs : List Vector) (first : State) (ends : List State) : Type 0 where
   pub first_slot : Completes d (start_of d) first
   pub slots : AreSlots d first vs ends
+
+-- what the assignments change is data alone: each other one gives its input what it has
+abbrev pub ChangesData : Netlist → State → List Move → Type 0
+ChangesData d s moves = (i : ℕ) (x : Input) (v : List Bit) → slice_get d.inputs i ≡ Some x → assigned moves i ≡ Some v → (x.class ≡ Data) ⊎ (value_at BX s.store.signals x.signal ≡ v)

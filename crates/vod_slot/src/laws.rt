@@ -1,14 +1,21 @@
 //! What holds of the queue in every order of its events.
-ghost use Rattle.std.specs.Prelude.{◌≡◌, ◌⊎◌, ◌<◌, ◌≤◌, ◌+◌, ℕ, List, IsTrue, length, true, Some, slice_get};
+ghost use Rattle.std.specs.Prelude.{◌≡◌, ◌⊎◌, ◌<◌, ◌≤◌, ◌+◌, ◌*◌, ℕ, List, IsTrue, length, true, Some, slice_get, unwrap_or};
+ghost use Rattle.vod_bits.specs.Bit.{Bit, BX, BZ};
+ghost use Rattle.vod_design.specs.declared.parts.Block.{Block};
 ghost use Rattle.vod_design.specs.declared.parts.Driver.{Driver};
+ghost use Rattle.vod_design.specs.declared.parts.Input.{Input};
 ghost use Rattle.vod_design.specs.declared.vector.Move.{Move};
 ghost use Rattle.vod_design.specs.declared.vector.Vector.{Vector};
 ghost use Rattle.vod_design.specs.Accepted.{IsAccepted};
+ghost use Rattle.vod_design.specs.Lawful.{assigned};
 ghost use Rattle.vod_design.specs.Netlist.{Netlist};
-ghost use Rattle.vod_slot.specs.Store.{Write, brought};
+ghost use Rattle.vod_design.specs.Values.{value_at};
+ghost use Rattle.vod_slot.specs.Store.{Write, brought, list_at};
 ghost use Rattle.vod_slot.specs.State.{State, flag_at, start_of, opened, IsResting};
 ghost use Rattle.vod_slot.specs.Step.{Event, is_allowed, after, put_all};
-ghost use Rattle.vod_slot.specs.Run.{Steps, Completes, IsRun};
+ghost use Rattle.vod_slot.specs.Run.{Steps, Completes, IsSlot, IsRun, ChangesData};
+ghost use Rattle.vod_slot.specs.Edges.{edge_bit, AreEdgesKept, DoMovesFit};
+ghost use Rattle.vod_slot.specs.Room.{updates_room, statement_most, nets_of, IsRoomKept};
 ghost use Rattle.vod_slot.specs.Settled.{AgreeFirst, IsConsistent, IsSettled};
 ghost use Rattle.vod_slot.specs.Weight.{weight_of};
 
@@ -49,6 +56,39 @@ pub fn every_order_ends()
 /// Where nothing is left, registers, memory words and inputs decide all else: two states with the same of these are one.
 pub fn registers_decide_nets()
     ensures { (d : Netlist) (ranked : List ℕ) (s t : State) → IsAccepted d ranked → IsConsistent d s → IsConsistent d t → IsResting s → IsResting t → AgreeFirst d s.store t.store → s ≡ t }
+{
+    value_hangs_on_reads();
+}
+
+/// In each slot an edge net has its opening value or the one that its input brings, and so changes at most once: in slot 0 from x to z,
+/// and later from what it had as the slot opened. Every event keeps this.
+pub fn edge_nets_change_once()
+    ensures start { (d : Netlist) (ranked : List ℕ) → IsAccepted d ranked → AreEdgesKept d (λ n. BX) (λ n. BZ) (start_of d) }
+    ensures opened { (d : Netlist) (ranked : List ℕ) (s : State) (moves : List Move) → IsAccepted d ranked → IsConsistent d s → IsResting s → DoMovesFit d moves → (brought : ℕ → Bit) × AreEdgesKept d (edge_bit s.store) brought (opened d moves s) }
+    ensures after { (d : Netlist) (ranked : List ℕ) (opening brought : ℕ → Bit) (s : State) (event : Event) → IsAccepted d ranked → IsConsistent d s → AreEdgesKept d opening brought s → IsTrue (is_allowed s event) → AreEdgesKept d opening brought (after d s event) }
+{
+    value_hangs_on_reads();
+}
+
+/// At every moment of a slot the updates of a block, and those that it can still leave, take at most the room of what its body can leave
+/// for each of the nets that it waits for: none of these has two edges.
+pub fn updates_have_room()
+    ensures start { (d : Netlist) (opening : ℕ → Bit) → IsRoomKept d opening (start_of d) }
+    ensures opened { (d : Netlist) (opening : ℕ → Bit) (s : State) (moves : List Move) → IsResting s → IsRoomKept d opening (opened d moves s) }
+    ensures after { (d : Netlist) (ranked : List ℕ) (opening brought : ℕ → Bit) (s : State) (event : Event) → IsAccepted d ranked → IsConsistent d s → AreEdgesKept d opening brought s → IsTrue (is_allowed s event) → IsRoomKept d opening s → IsRoomKept d opening (after d s event) }
+    ensures suffices { (d : Netlist) (opening : ℕ → Bit) (s : State) (k : ℕ) (b : Block) → slice_get d.blocks k ≡ Some b → IsRoomKept d opening s → updates_room (list_at s.later k) + updates_room (list_at s.now k) ≤ statement_most b.body * length (nets_of b) }
+{}
+
+/// Whatever order of events was taken, a slot that changes data alone ends in one state.
+pub fn data_slots_end_alike()
+    ensures { (d : Netlist) (ranked : List ℕ) (s t u : State) (moves : List Move) → IsAccepted d ranked → IsConsistent d s → DoMovesFit d moves → ChangesData d s moves → IsSlot d s moves t → IsSlot d s moves u → t ≡ u }
+{
+    value_hangs_on_reads();
+}
+
+/// After a slot each input has what it was assigned, and one that wasn't has what it had.
+pub fn inputs_take_moves()
+    ensures { (d : Netlist) (ranked : List ℕ) (s t : State) (moves : List Move) (i : ℕ) (x : Input) → IsAccepted d ranked → IsConsistent d s → DoMovesFit d moves → IsSlot d s moves t → slice_get d.inputs i ≡ Some x → value_at BX t.store.signals x.signal ≡ unwrap_or (assigned moves i) (value_at BX s.store.signals x.signal) }
 {
     value_hangs_on_reads();
 }

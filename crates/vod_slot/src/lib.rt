@@ -6,5 +6,6 @@ mod laws;
 
 pub use crate::event::Event;
 pub use crate::laws::{
-    changes_wake_readers, drivers_are_followed, every_order_ends, registers_decide_nets,
+    changes_wake_readers, data_slots_end_alike, drivers_are_followed, edge_nets_change_once,
+    every_order_ends, inputs_take_moves, registers_decide_nets, updates_have_room,
 };
