@@ -1,0 +1,15 @@
+//! Rows on the rules of modules and names. A `modules` row has a source, and is answered with its top or the least place where the
+//! rule on modules is broken; a `declared` row with the least place where a declaration is at fault.
+#![tactic(auto)]
+
+mod row;
+
+use std::io;
+
+fn main(rt: HostRuntime) -> io::Result<()> {
+    for line in rt.lines(rt.alloc()) {
+        let answered = row::answered(rt.alloc(), line?.as_str())?;
+        println!(rt; "{answered}")?;
+    }
+    Ok(())
+}
