@@ -6,3 +6,4 @@ pub mod Entries
 pub mod Times
 pub mod Overwrite
 pub mod Windows
+pub mod Instances

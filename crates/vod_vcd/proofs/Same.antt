@@ -3,8 +3,9 @@ use Rattle.std.proofs.Common.{◌≡◌, ℕ, ◌<◌, ◌^◌, nat_eq, List, []
 use Rattle.std.proofs.lemmas.Bool.{cases_Bool}
 use Rattle.vod_bits.specs.Bit.{Bit, B0, B1, BX, BZ}
 use Rattle.vod_design.specs.Eval.{same_bit}
+use Rattle.vod_bits.specs.Value.{bits_from}
 use Rattle.vod_four.specs.Four.{four_of}
-use Rattle.vod_four.specs.Fields.{fields_back, ones_of, unks_of}
+use Rattle.vod_four.specs.Fields.{fields_back, four-places, ones_of, unks_of}
 use Rattle.vod_vcd.specs.Dump.{same_value}
 
 equal-same_bit : (a b : Bit) → same_bit a b ≡ true → a ≡ b
@@ -67,3 +68,8 @@ same_value-unks w o u v ho hu hv = elim (cases_Bool (nat_eq u v)) [
       let apart : u ≡ v → ⊥ = grind arith in
       rw changed (sym (different-same_value (four_of w o u) (four_of w o v) (λ e. apart (field (λ _ _ n. n) w o u w o v ho hu ho hv e))))
 ]
+
+-- the value of one x
+pub one_x : four_of 1 0 1 ≡ BX ∷ []
+unfolding bits_from
+one_x = four-places 1 0 1

@@ -41,7 +41,7 @@ abbrev pub variable_type : Bool → List ℕ
 variable_type register = if register then codes "reg" else codes "wire"
 
 -- ` [MSB:LSB]` of a signal that was declared with a range
-abbrev pub range_text : Signal → List ℕ
+unfoldable pub range_text : Signal → List ℕ
 range_text signal =
     if signal.ranged then codes " [" ++ decimal (signal.lsb + (signal.width - 1)) ++ codes ":" ++ decimal signal.lsb ++ codes "]" else []
 

@@ -5,3 +5,4 @@ pub mod Header
 pub mod Dump
 pub mod Stream
 pub mod Page
+pub mod Scopes

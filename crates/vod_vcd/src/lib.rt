@@ -1,8 +1,10 @@
 //! Value change dumps (IEEE 1364-2005, 18): the text of values, and the dump of a run, written as the run goes on.
 #![tactic(auto)]
 
+mod header;
 mod law;
 mod lines;
+mod scopes;
 mod value;
 mod writer;
 

@@ -2,14 +2,26 @@ ghost use Rattle.std.specs.Prelude.{◌≡◌, [], length, vec_len, IfOk, OnOk, 
 ghost use Rattle.vod_bits.specs.Bit.{BX};
 ghost use Rattle.vod_io.specs.Told.{Written};
 ghost use Rattle.vod_io.specs.Faults.{HasCause};
+ghost use Rattle.vod_vcd.specs.Header.{header_text};
 ghost use Rattle.vod_vcd.specs.Text.{opening_text};
 ghost use Rattle.vod_vcd.specs.Dump.{differing, closing_text};
 ghost use Rattle.vod_vcd.specs.Stream.{slot_text, printed_after};
 
-use crate::lines::{put_changes, put_opening, put_time_line};
+use crate::Memory;
+use crate::header::header_of;
+use crate::lines::{most_bytes_of, put_changes, put_opening, put_time_line};
+use std::alloc::Global;
 use std::marker::Model;
+use vod_design::Design;
 use vod_four::Four;
 use vod_io::{Failed, Sink, put_all};
+
+// An x, which stands for each value before the first is written.
+const UNKNOWN: Four = Four {
+    width: 1,
+    ones: 0,
+    unks: 1,
+};
 
 // What was written last: the values shown, and the time printed.
 #[derive(Drop)]
@@ -54,6 +66,29 @@ impl Model for Writer {
 }
 
 impl Writer {
+    /// The writer for a design and the bytes of its source; it takes all room that its calls need.
+    /// As yet each value shown is one x, and the time printed is 0.
+    pub fn new(alloc: Global, design: &Design, source: &[u8]) -> Result<Writer, Memory>
+        ensures { IfOk result (λ writer. writer ≡ record {
+          header = header_text source.now design.now.netlist;
+          signals = length design.now.netlist.signals;
+          shown = replicate (length design.now.netlist.signals) (BX ∷ []);
+          printed = 0;
+        }) }
+    {
+        design.keeps_rules();
+        let signals = design.signals().len();
+        Ok(Writer {
+            header: header_of(alloc, design, source)?,
+            last: Last {
+                values: vec![in alloc; UNKNOWN; signals]?,
+                time: 0,
+            },
+            text: Vec::with_capacity(alloc, most_bytes_of(signals))?,
+            numbers: Vec::with_capacity(alloc, signals)?,
+        })
+    }
+
     /// Writes the lines before the first time.
     pub fn header<K: Sink>(&mut self, out: &mut K) -> Result<(), Failed>
         ensures written { Written result (K.taken out.old) (K.taken out.new) self.old.header }
