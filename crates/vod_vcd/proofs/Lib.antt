@@ -7,3 +7,4 @@ pub mod Times
 pub mod Overwrite
 pub mod Windows
 pub mod Instances
+pub mod Cover

@@ -6,3 +6,4 @@ pub mod Dump
 pub mod Stream
 pub mod Page
 pub mod Scopes
+pub mod Chosen

@@ -7,6 +7,7 @@ mod lines;
 mod scopes;
 mod value;
 mod writer;
+mod written;
 
 pub use law::window_is_cut;
 use std::alloc::AllocError;

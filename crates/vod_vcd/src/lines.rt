@@ -12,8 +12,8 @@ use vod_four::Four;
 // The most bytes of a time line: `#`, twenty digits and LF.
 const TIME_LINE: usize = 22;
 
-// Whether two values have the same bits.
-fn is_same(a: Four, b: Four) -> bool
+/// Whether two values have the same bits.
+pub fn is_same(a: Four, b: Four) -> bool
     ensures { result ≡ same_value a b }
 {
     if a.width != b.width {
@@ -58,8 +58,8 @@ pub fn put_time_line(text: &mut Vec<u8>, time: u64)
     text.push_reserved(b'\n');
 }
 
-// Puts the line of a signal's value.
-fn put_value_line(text: &mut Vec<u8>, signal: usize, value: Four)
+/// Puts the line of a signal's value.
+pub fn put_value_line(text: &mut Vec<u8>, signal: usize, value: Four)
     requires few { signal < 16384 }
     requires room { vec_len text.old + VALUE_LINE ≤ vec_capacity text.old }
     ensures put { text.new.items ≡ text.old.items ++ value_line signal value }

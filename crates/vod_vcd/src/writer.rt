@@ -1,15 +1,17 @@
-ghost use Rattle.std.specs.Prelude.{◌≡◌, [], length, vec_len, IfOk, OnOk, OnErr, IsOk, replicate, ◌∷◌};
+ghost use Rattle.std.specs.Prelude.{◌≡◌, ◌<◌, ◌≤◌, [], length, All, vec_len, vec_capacity, IfOk, OnOk, OnErr, IsOk, replicate, ◌∷◌};
 ghost use Rattle.vod_bits.specs.Bit.{BX};
 ghost use Rattle.vod_io.specs.Told.{Written};
 ghost use Rattle.vod_io.specs.Faults.{HasCause};
 ghost use Rattle.vod_vcd.specs.Header.{header_text};
 ghost use Rattle.vod_vcd.specs.Text.{opening_text};
 ghost use Rattle.vod_vcd.specs.Dump.{differing, closing_text};
+ghost use Rattle.vod_vcd.specs.Page.{Covers};
 ghost use Rattle.vod_vcd.specs.Stream.{slot_text, printed_after};
 
 use crate::Memory;
 use crate::header::header_of;
 use crate::lines::{most_bytes_of, put_changes, put_opening, put_time_line};
+use crate::written::put_written;
 use std::alloc::Global;
 use std::marker::Model;
 use vod_design::Design;
@@ -38,6 +40,22 @@ impl Last {
         ensures time { self.new.time ≡ time }
     {
         self.values.copy_from_slice(values);
+        self.time = time;
+    }
+}
+
+impl Last {
+    // Takes over the values of some signals, among which are all that differ.
+    fn take_over(&mut self, time: u64, values: &[Four], numbers: &[u32])
+        requires same { vec_len self.old.values ≡ length values.now }
+        requires covers { Covers numbers.now self.old.values.items values.now }
+        ensures values { self.new.values.items ≡ values.now }
+        ensures len { vec_len self.new.values ≡ vec_len self.old.values }
+        ensures time { self.new.time ≡ time }
+    {
+        for number in numbers {
+            self.values[*number as usize] = values[*number as usize];
+        }
         self.time = time;
     }
 }
@@ -143,6 +161,46 @@ impl Writer {
         }
         put_all(out, &self.text)?;
         self.last.set(time, values);
+        Ok(())
+    }
+
+    /// Writes what `slot` writes, of a slot in which no other signals than those of these numbers differ from the values last shown.
+    /// It takes time in proportion to them, and to sort them.
+    pub fn slot_of<K: Sink>(
+        &mut self,
+        time: u64,
+        values: &[Four],
+        written: &[u32],
+        out: &mut K,
+    ) -> Result<(), Failed>
+        requires same { length values.now ≡ self.old.signals }
+        requires covers { Covers written.now self.old.shown values.now }
+        ensures written { Written result (K.taken out.old) (K.taken out.new) (slot_text self.old.shown time values.now) }
+        ensures shown { OnOk result (self.new ≡ record self.old {
+          shown = values.now;
+          printed = printed_after self.old.shown self.old.printed time values.now;
+        }) }
+        ensures kept { OnErr result (self.new ≡ self.old) }
+        ensures caused { HasCause (K.faults out.old) (K.faults out.new) result }
+
+        // Without a change there is no call of the sink.
+        ensures quiet { differing self.old.shown values.now ≡ [] → IsOk result × (out.new ≡ out.old) }
+    {
+        self.text.clear();
+        put_time_line(&mut self.text, time);
+        let unchanged = self.text.len();
+        put_written(
+            &mut self.text,
+            &mut self.numbers,
+            &self.last.values,
+            values,
+            written,
+        );
+        if self.text.len() == unchanged {
+            return Ok(());
+        }
+        put_all(out, &self.text)?;
+        self.last.take_over(time, values, &self.numbers);
         Ok(())
     }
 
