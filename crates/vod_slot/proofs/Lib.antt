@@ -22,3 +22,4 @@ pub mod Rooms
 pub mod Calm
 pub mod Data
 pub mod Inputs
+pub mod StackRoom

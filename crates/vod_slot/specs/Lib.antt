@@ -7,3 +7,4 @@ pub mod Run
 pub mod Weight
 pub mod Edges
 pub mod Room
+pub mod Stack

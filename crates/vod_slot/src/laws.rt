@@ -16,6 +16,7 @@ ghost use Rattle.vod_slot.specs.Step.{Event, is_allowed, after, put_all};
 ghost use Rattle.vod_slot.specs.Run.{Steps, Completes, IsSlot, IsRun, ChangesData};
 ghost use Rattle.vod_slot.specs.Edges.{edge_bit, AreEdgesKept, DoMovesFit};
 ghost use Rattle.vod_slot.specs.Room.{updates_room, statement_most, nets_of, IsRoomKept};
+ghost use Rattle.vod_slot.specs.Stack.{statements_most, IsStackKept};
 ghost use Rattle.vod_slot.specs.Settled.{AgreeFirst, IsConsistent, IsSettled};
 ghost use Rattle.vod_slot.specs.Weight.{weight_of};
 
@@ -77,6 +78,14 @@ pub fn updates_have_room()
     ensures opened { (d : Netlist) (opening : ℕ → Bit) (s : State) (moves : List Move) → IsResting s → IsRoomKept d opening (opened d moves s) }
     ensures after { (d : Netlist) (ranked : List ℕ) (opening brought : ℕ → Bit) (s : State) (event : Event) → IsAccepted d ranked → IsConsistent d s → AreEdgesKept d opening brought s → IsTrue (is_allowed s event) → IsRoomKept d opening s → IsRoomKept d opening (after d s event) }
     ensures suffices { (d : Netlist) (opening : ℕ → Bit) (s : State) (k : ℕ) (b : Block) → slice_get d.blocks k ≡ Some b → IsRoomKept d opening s → updates_room (list_at s.later k) + updates_room (list_at s.now k) ≤ statement_most b.body * length (nets_of b) }
+{}
+
+/// At every moment of a run the statements of a block that are left at once number at most the most that its body can leave.
+pub fn statements_have_room()
+    ensures start { (d : Netlist) → IsStackKept d (start_of d) }
+    ensures opened { (d : Netlist) (s : State) (moves : List Move) → IsResting s → IsStackKept d (opened d moves s) }
+    ensures after { (d : Netlist) (s : State) (event : Event) → IsStackKept d s → IsStackKept d (after d s event) }
+    ensures suffices { (d : Netlist) (s : State) (k : ℕ) (b : Block) → slice_get d.blocks k ≡ Some b → IsStackKept d s → length (list_at s.todo k) ≤ statements_most b.body }
 {}
 
 /// Whatever order of events was taken, a slot that changes data alone ends in one state.
