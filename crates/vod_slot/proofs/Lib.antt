@@ -23,3 +23,7 @@ pub mod Calm
 pub mod Data
 pub mod Inputs
 pub mod StackRoom
+pub mod Swaps
+pub mod Starts
+pub mod Settling
+pub mod First

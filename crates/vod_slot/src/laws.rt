@@ -88,6 +88,13 @@ pub fn statements_have_room()
     ensures suffices { (d : Netlist) (s : State) (k : ℕ) (b : Block) → slice_get d.blocks k ≡ Some b → IsStackKept d s → length (list_at s.todo k) ≤ statements_most b.body }
 {}
 
+/// Whatever order of events was taken, slot 0 ends in one state.
+pub fn first_slots_end_alike()
+    ensures { (d : Netlist) (ranked : List ℕ) (t u : State) → IsAccepted d ranked → Completes d (start_of d) t → Completes d (start_of d) u → t ≡ u }
+{
+    value_hangs_on_reads();
+}
+
 /// Whatever order of events was taken, a slot that changes data alone ends in one state.
 pub fn data_slots_end_alike()
     ensures { (d : Netlist) (ranked : List ℕ) (s t u : State) (moves : List Move) → IsAccepted d ranked → IsConsistent d s → DoMovesFit d moves → ChangesData d s moves → IsSlot d s moves t → IsSlot d s moves u → t ≡ u }
