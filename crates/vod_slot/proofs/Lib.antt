@@ -27,3 +27,12 @@ pub mod Swaps
 pub mod Starts
 pub mod Settling
 pub mod First
+pub mod Bodies
+pub mod Owned
+pub mod Constants
+pub mod Own
+pub mod Stages
+pub mod Still
+pub mod Busy
+pub mod Activated
+pub mod Slots

@@ -1,5 +1,5 @@
 -- Where blocks start: at an edge of a net, as it comes from its opening value to the one that is brought.
-use Rattle.std.proofs.Common.{◌≡◌, inl, inr, ℕ, ◌==◌, ◌||◌, ◌&&◌, Bool, true, false, if◌then◌else◌, List, [], ◌∷◌, refl, ap, sym, ◌∙◌, ⊎_elim, All, Option, Some, None, eq-eqb}
+use Rattle.std.proofs.Common.{◌≡◌, ◌⊎◌, inl, inr, ℕ, ◌==◌, ◌||◌, ◌&&◌, Bool, true, false, if◌then◌else◌, List, [], ◌∷◌, refl, ap, sym, ◌∙◌, ⊎_elim, All, Option, Some, None, eq-eqb}
 use Rattle.std.proofs.lemmas.Bool.{ne_eqb}
 use Rattle.std.proofs.lemmas.List.Elements.{All-head, All-tail, All-weaker}
 use Rattle.vod_bits.specs.Bit.{Bit, B0, B1, BX, BZ}
@@ -85,7 +85,7 @@ edge_step o e store w x between (inr is) =
     between.value
 
 -- where no edge of the block is brought, it doesn't start
-or_none : (a b : Bool) → (a || b) ≡ false → (a ≡ false) × (b ≡ false)
+pub or_none : (a b : Bool) → (a || b) ≡ false → (a ≡ false) × (b ≡ false)
 or_none true b h = absurd (cc)
 or_none false b h = (refl, h)
 
@@ -151,3 +151,66 @@ todo_unstarted d ranked h o e none (w ∷ writes) st between brings =
   where
     each : (P : ℕ → Type 0) (ns : List ℕ) → All (IsEdgeNet d) ns → ((n : ℕ) → IsEdgeNet d n → P n) → All P ns
     each P ns nets f = All-weaker (IsEdgeNet d) P f ns nets
+
+-- a block of whose nets one is brought what it has starts once at most
+
+abbrev pub SameReset : (ℕ → Bit) → (ℕ → Bit) → Option Edge → Type 0
+SameReset o e None = Unit {0}
+SameReset o e (Some x) = o x.signal ≡ e x.signal
+
+abbrev pub HasOneEdge : (ℕ → Bit) → (ℕ → Bit) → Block → Type 0
+HasOneEdge o e b = (o b.clock.signal ≡ e b.clock.signal) ⊎ SameReset o e b.reset
+
+-- whether an edge comes, and whether one came before and one did then
+pub data IsTurn (comes before then_ : Bool) : Type 0 where
+  rests : comes ≡ false → then_ ≡ before → IsTurn comes before then_
+  begins : comes ≡ true → before ≡ false → then_ ≡ true → IsTurn comes before then_
+
+pub never : (o e : ℕ → Bit) (store : Store) (x : Edge) → o x.signal ≡ e x.signal → IsBetween o e store x.signal → had_edge o (edge_bit store) x ≡ false
+never o e store x same between = ⊎_elim (λ old. ap (is_change x (o x.signal)) old ∙ no_change x (o x.signal)) (λ new. ap (is_change x (o x.signal)) (new ∙ sym same) ∙ no_change x (o x.signal)) between.value
+
+never_comes : (o e : ℕ → Bit) (store : Store) (w : Write) (x : Edge) → o x.signal ≡ e x.signal → IsStep o e store w x → is_edge store w x ≡ false
+never_comes o e store w x same step = no_edge o e store w x step (ap (is_change x (o x.signal)) (sym same) ∙ no_change x (o x.signal))
+
+turn_of : (o e : ℕ → Bit) (store : Store) (w : Write) (x : Edge) → IsStep o e store w x → IsTurn (is_edge store w x) (had_edge o (edge_bit store) x) (had_edge o (edge_bit (written store w)) x)
+turn_of o e store w x (still none same) = rests none same
+turn_of o e store w x (came is was now will) = begins is was now
+
+reset_turn : (o e : ℕ → Bit) (store : Store) (w : Write) (reset : Option Edge) → All (IsBetween o e store) (reset_nets reset) → All (λ n. Brings e n w) (reset_nets reset) → IsTurn (is_reset_edge store w reset) (had_reset o (edge_bit store) reset) (had_reset o (edge_bit (written store w)) reset)
+reset_turn o e store w None between brings = rests refl refl
+reset_turn o e store w (Some x) between brings = turn_of o e store w x (edge_step o e store w x (All-head (IsBetween o e store) x.signal [] between) (All-head (λ n. Brings e n w) x.signal [] brings))
+
+by_reset : (comes before then_ c b t : Bool) → c ≡ false → b ≡ false → t ≡ false → IsTurn comes before then_ → IsTurn (c || comes) (b || before) (t || then_)
+by_reset comes before then_ c b t hc hb ht turn = rw (hc, hb, ht) turn
+
+or-false : (b : Bool) → (b || false) ≡ b
+or-false true = refl
+or-false false = refl
+
+by_clock : (comes before then_ c b t : Bool) → c ≡ false → b ≡ false → t ≡ false → IsTurn comes before then_ → IsTurn (comes || c) (before || b) (then_ || t)
+by_clock comes before then_ c b t hc hb ht turn = rw (hc, hb, ht, or-false comes, or-false before, or-false then_) turn
+
+quiet_reset : (o e : ℕ → Bit) (store : Store) (w : Write) (reset : Option Edge) → SameReset o e reset → All (IsBetween o e store) (reset_nets reset) → All (λ n. Brings e n w) (reset_nets reset) →
+    (is_reset_edge store w reset ≡ false) × ((had_reset o (edge_bit store) reset ≡ false) × (had_reset o (edge_bit (written store w)) reset ≡ false))
+quiet_reset o e store w None same between brings = (refl, (refl, refl))
+quiet_reset o e store w (Some x) same between brings =
+    let here = All-head (IsBetween o e store) x.signal [] between in
+    let brought = All-head (λ n. Brings e n w) x.signal [] brings in
+    (never_comes o e store w x same (edge_step o e store w x here brought), (never o e store x same here, never o e (written store w) x same (IsBetween-written o e store x.signal w here brought)))
+
+pub block_turn : (o e : ℕ → Bit) (store : Store) (w : Write) (b : Block) → HasOneEdge o e b → All (IsBetween o e store) (nets_of b) → All (λ n. Brings e n w) (nets_of b) → IsTurn (starts store w b) (had_start o (edge_bit store) b) (had_start o (edge_bit (written store w)) b)
+block_turn o e store w b (inl same) between brings =
+    let n = b.clock.signal in
+    let nets = reset_nets b.reset in
+    let here = All-head (IsBetween o e store) n nets between in
+    let brought = All-head (λ m. Brings e m w) n nets brings in
+    by_reset (is_reset_edge store w b.reset) (had_reset o (edge_bit store) b.reset) (had_reset o (edge_bit (written store w)) b.reset) (is_edge store w b.clock) (had_edge o (edge_bit store) b.clock) (had_edge o (edge_bit (written store w)) b.clock)
+    (never_comes o e store w b.clock same (edge_step o e store w b.clock here brought)) (never o e store b.clock same here) (never o e (written store w) b.clock same (IsBetween-written o e store n w here brought))
+    (reset_turn o e store w b.reset (All-tail (IsBetween o e store) n nets between) (All-tail (λ m. Brings e m w) n nets brings))
+block_turn o e store w b (inr same) between brings =
+    let n = b.clock.signal in
+    let nets = reset_nets b.reset in
+    let q = quiet_reset o e store w b.reset same (All-tail (IsBetween o e store) n nets between) (All-tail (λ m. Brings e m w) n nets brings) in
+    by_clock (is_edge store w b.clock) (had_edge o (edge_bit store) b.clock) (had_edge o (edge_bit (written store w)) b.clock) (is_reset_edge store w b.reset) (had_reset o (edge_bit store) b.reset) (had_reset o (edge_bit (written store w)) b.reset)
+    q.0 q.1.0 q.1.1
+    (turn_of o e store w b.clock (edge_step o e store w b.clock (All-head (IsBetween o e store) n nets between) (All-head (λ m. Brings e m w) n nets brings)))

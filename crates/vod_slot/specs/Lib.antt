@@ -8,3 +8,4 @@ pub mod Weight
 pub mod Edges
 pub mod Room
 pub mod Stack
+pub mod Classes

@@ -4,6 +4,7 @@ ghost use Rattle.vod_bits.specs.Bit.{Bit, BX, BZ};
 ghost use Rattle.vod_design.specs.declared.parts.Block.{Block};
 ghost use Rattle.vod_design.specs.declared.parts.Driver.{Driver};
 ghost use Rattle.vod_design.specs.declared.parts.Input.{Input};
+ghost use Rattle.vod_design.specs.declared.vector.Class.{Class};
 ghost use Rattle.vod_design.specs.declared.vector.Move.{Move};
 ghost use Rattle.vod_design.specs.declared.vector.Vector.{Vector};
 ghost use Rattle.vod_design.specs.Accepted.{IsAccepted};
@@ -14,6 +15,7 @@ ghost use Rattle.vod_slot.specs.Store.{Write, brought, list_at};
 ghost use Rattle.vod_slot.specs.State.{State, flag_at, start_of, opened, IsResting};
 ghost use Rattle.vod_slot.specs.Step.{Event, is_allowed, after, put_all};
 ghost use Rattle.vod_slot.specs.Run.{Steps, Completes, IsSlot, IsRun, ChangesData};
+ghost use Rattle.vod_slot.specs.Classes.{ChangesClass};
 ghost use Rattle.vod_slot.specs.Edges.{edge_bit, AreEdgesKept, DoMovesFit};
 ghost use Rattle.vod_slot.specs.Room.{updates_room, statement_most, nets_of, IsRoomKept};
 ghost use Rattle.vod_slot.specs.Stack.{statements_most, IsStackKept};
@@ -98,6 +100,13 @@ pub fn first_slots_end_alike()
 /// Whatever order of events was taken, a slot that changes data alone ends in one state.
 pub fn data_slots_end_alike()
     ensures { (d : Netlist) (ranked : List ℕ) (s t u : State) (moves : List Move) → IsAccepted d ranked → IsConsistent d s → DoMovesFit d moves → ChangesData d s moves → IsSlot d s moves t → IsSlot d s moves u → t ≡ u }
+{
+    value_hangs_on_reads();
+}
+
+/// Whatever order of events was taken, a slot that changes clocks alone, resets alone or data alone ends in one state.
+pub fn slots_end_alike()
+    ensures { (d : Netlist) (ranked : List ℕ) (s t u : State) (moves : List Move) (class : Class) → IsAccepted d ranked → IsConsistent d s → DoMovesFit d moves → ChangesClass d s moves class → IsSlot d s moves t → IsSlot d s moves u → t ≡ u }
 {
     value_hangs_on_reads();
 }

@@ -8,5 +8,5 @@ pub use crate::event::Event;
 pub use crate::laws::{
     changes_wake_readers, data_slots_end_alike, drivers_are_followed, edge_nets_change_once,
     every_order_ends, first_slots_end_alike, inputs_take_moves, registers_decide_nets,
-    statements_have_room, updates_have_room,
+    slots_end_alike, statements_have_room, updates_have_room,
 };
