@@ -138,7 +138,7 @@ last_given st rests i x v given = ⊎_elim (λ l. absurd (none_there v (sym (def
 pub input_of : (d : Netlist) (n : ℕ) → Contains (map (λ (y : Input). y.signal) d.inputs) n → (i : ℕ) × (x : Input) × (slice_get d.inputs i ≡ Some x) × (x.signal ≡ n)
 input_of d n stands = let p = place_in (map (λ (y : Input). y.signal) d.inputs) n stands in unmapped d.inputs p.0 n p.1
 
-first_input : HangsOnReads → (d : Netlist) (ranked : List ℕ) → IsAccepted d ranked → (t : State) → Completes d (start_of d) t → (i : ℕ) (x : Input) → slice_get d.inputs i ≡ Some x → value_at BX t.store.signals x.signal ≡ value_at BX (start_of d).store.signals x.signal
+pub first_input : HangsOnReads → (d : Netlist) (ranked : List ℕ) → IsAccepted d ranked → (t : State) → Completes d (start_of d) t → (i : ℕ) (x : Input) → slice_get d.inputs i ≡ Some x → value_at BX t.store.signals x.signal ≡ value_at BX (start_of d).store.signals x.signal
 first_input hangs d ranked h t c i x at =
     let start = IsConsistent-start_of d ranked h in
     let v = value_at BX (start_of d).store.signals x.signal in

@@ -36,3 +36,4 @@ pub mod Still
 pub mod Busy
 pub mod Activated
 pub mod Slots
+pub mod Runs

@@ -1,5 +1,5 @@
 //! What holds of the queue in every order of its events.
-ghost use Rattle.std.specs.Prelude.{◌≡◌, ◌⊎◌, ◌<◌, ◌≤◌, ◌+◌, ◌*◌, ℕ, List, IsTrue, length, true, Some, slice_get, unwrap_or};
+ghost use Rattle.std.specs.Prelude.{◌≡◌, ◌⊎◌, ◌<◌, ◌≤◌, ◌+◌, ◌*◌, ℕ, List, [], ◌∷◌, ◌++◌, IsTrue, length, true, Some, slice_get, unwrap_or};
 ghost use Rattle.vod_bits.specs.Bit.{Bit, BX, BZ};
 ghost use Rattle.vod_design.specs.declared.parts.Block.{Block};
 ghost use Rattle.vod_design.specs.declared.parts.Driver.{Driver};
@@ -8,14 +8,14 @@ ghost use Rattle.vod_design.specs.declared.vector.Class.{Class};
 ghost use Rattle.vod_design.specs.declared.vector.Move.{Move};
 ghost use Rattle.vod_design.specs.declared.vector.Vector.{Vector};
 ghost use Rattle.vod_design.specs.Accepted.{IsAccepted};
-ghost use Rattle.vod_design.specs.Lawful.{assigned};
-ghost use Rattle.vod_design.specs.Netlist.{Netlist};
+ghost use Rattle.vod_design.specs.Lawful.{assigned, IsInForm, IsUnmixed, IsLawful};
+ghost use Rattle.vod_design.specs.Netlist.{Netlist, ports};
 ghost use Rattle.vod_design.specs.Values.{value_at};
 ghost use Rattle.vod_slot.specs.Store.{Write, brought, list_at};
 ghost use Rattle.vod_slot.specs.State.{State, flag_at, start_of, opened, IsResting};
 ghost use Rattle.vod_slot.specs.Step.{Event, is_allowed, after, put_all};
 ghost use Rattle.vod_slot.specs.Run.{Steps, Completes, IsSlot, IsRun, ChangesData};
-ghost use Rattle.vod_slot.specs.Classes.{ChangesClass};
+ghost use Rattle.vod_slot.specs.Classes.{ChangesClass, HaveGiven};
 ghost use Rattle.vod_slot.specs.Edges.{edge_bit, AreEdgesKept, DoMovesFit};
 ghost use Rattle.vod_slot.specs.Room.{updates_room, statement_most, nets_of, IsRoomKept};
 ghost use Rattle.vod_slot.specs.Stack.{statements_most, IsStackKept};
@@ -114,6 +114,26 @@ pub fn slots_end_alike()
 /// After a slot each input has what it was assigned, and one that wasn't has what it had.
 pub fn inputs_take_moves()
     ensures { (d : Netlist) (ranked : List ℕ) (s t : State) (moves : List Move) (i : ℕ) (x : Input) → IsAccepted d ranked → IsConsistent d s → DoMovesFit d moves → IsSlot d s moves t → slice_get d.inputs i ≡ Some x → value_at BX t.store.signals x.signal ≡ unwrap_or (assigned moves i) (value_at BX s.store.signals x.signal) }
+{
+    value_hangs_on_reads();
+}
+
+/// After slot 0 each input is z, and after each slot it has what the vectors so far gave it last. So the assignments of a lawful vector
+/// change clocks alone, resets alone or data alone.
+pub fn inputs_have_given()
+    ensures first { (d : Netlist) (ranked : List ℕ) (t : State) → IsAccepted d ranked → Completes d (start_of d) t → HaveGiven d [] t }
+    ensures next { (d : Netlist) (ranked : List ℕ) (before : List Vector) (v : Vector) (s t : State) → IsAccepted d ranked → IsConsistent d s → IsInForm (ports d) v → HaveGiven d before s → IsSlot d s v.moves t → HaveGiven d (before ++ v ∷ []) t }
+    ensures fits { (d : Netlist) (v : Vector) → IsInForm (ports d) v → DoMovesFit d v.moves }
+    ensures unmixed { (d : Netlist) (before : List Vector) (v : Vector) (s : State) → HaveGiven d before s → IsUnmixed (ports d) before v → (class : Class) × ChangesClass d s v.moves class }
+{
+    value_hangs_on_reads();
+}
+
+/// Whatever order of events was taken, the slot of a lawful vector ends in one state; so all legal runs of the same lawful vectors have
+/// the same ends.
+pub fn orders_agree()
+    ensures one_end { (d : Netlist) (ranked : List ℕ) (before : List Vector) (v : Vector) (s t u : State) → IsAccepted d ranked → IsConsistent d s → HaveGiven d before s → IsInForm (ports d) v → IsUnmixed (ports d) before v → IsSlot d s v.moves t → IsSlot d s v.moves u → t ≡ u }
+    ensures one_run { (d : Netlist) (ranked : List ℕ) (vectors : List Vector) (first again : State) (ends others : List State) → IsAccepted d ranked → IsLawful (ports d) vectors → IsRun d vectors first ends → IsRun d vectors again others → (first ≡ again) × (ends ≡ others) }
 {
     value_hangs_on_reads();
 }
