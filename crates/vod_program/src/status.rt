@@ -183,7 +183,8 @@ fn put_line<E: Sink>(err: &mut E, fault: Fault) -> Result<(), Failed>
 {
     put_all(err, text_of(fault))?;
     put_number(err, number_of(fault))?;
-    put_all(err, ending(fault))
+    put_all(err, ending(fault))?;
+    err.flush()
 }
 
 /// The LF behind a line; of a failed sink there is none.
