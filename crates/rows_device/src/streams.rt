@@ -127,4 +127,8 @@ impl Sink for Short {
     fn write(&mut self, piece: &[u8]) -> Result<usize, Failed> {
         self.sink.write(&piece[..piece.len().min(2)])
     }
+
+    fn flush(&mut self) -> Result<(), Failed> {
+        self.sink.flush()
+    }
 }

@@ -1,4 +1,4 @@
-ghost use Rattle.std.specs.Prelude.{◌≡◌, ℕ, ◌+◌, ◌≤◌, ◌<◌, ◌↔◌, ◌⊎◌, [], length, take, drop, min, Some, Contains, IfOk, OnOk, OnErr, IsErr, vec_len, vec_capacity};
+ghost use Rattle.std.specs.Prelude.{◌≡◌, ℕ, ◌+◌, ◌≤◌, ◌<◌, ◌↔◌, ◌⊎◌, [], length, take, drop, min, Some, Ok, Contains, IfOk, OnOk, OnErr, IsErr, vec_len, vec_capacity};
 ghost use Rattle.vod_io.specs.Told.{put_back, appended, Told};
 ghost use Rattle.vod_io.specs.Faults.{HasCause};
 ghost use Rattle.vod_io.specs.InMemory.{counted};
@@ -158,5 +158,17 @@ impl Sink for MemSink {
         }
         self.bytes.extend_from_slice(piece).unwrap();
         Ok(piece.len())
+    }
+
+    /// Does nothing: what was taken is here.
+    fn flush(&mut self) -> Result<(), Failed>
+        ensures taken { Some self.new.taken ≡ Some self.old.taken }
+        ensures caused { HasCause self.old.faults self.new.faults result }
+
+        // What this one promises besides.
+        ensures ok { result ≡ Ok tt }
+        ensures unchanged { self.new ≡ self.old }
+    {
+        Ok(())
     }
 }

@@ -1,5 +1,6 @@
-ghost use Rattle.std.specs.Prelude.{◌≡◌, ◌≤◌, None, length, IfOk};
+ghost use Rattle.std.specs.Prelude.{◌≡◌, ◌≤◌, ◌<◌, ◌+◌, None, length, IfOk};
 ghost use Rattle.std.specs.String.{string_bytes};
+ghost use Rattle.vod_io.specs.Faults.{HasCause};
 
 use crate::{Failed, Sink, Source};
 use std::fs::{File, Files};
@@ -148,20 +149,29 @@ impl PrintErr for HostRuntime {
     }
 }
 
-/// Standard output or standard error as a sink with no buffer, which doesn't tell what it took.
+/// How many bytes a standard stream gathers before it writes them.
+const GATHERED: usize = 65_536;
+
+/// Standard output or standard error as a sink, which gathers up to 65,536 bytes, until it is flushed. It doesn't tell what it took.
 #[derive(Drop)]
 pub struct StdSink<R: Print + PrintErr> {
     rt: R,
     err: bool,
+    gathered: [u8; GATHERED],
+    // How many bytes are gathered.
+    len: usize,
     faults: u64,
 }
 
 impl<R: Print + PrintErr> Model for StdSink<R> {
+    ghost use Rattle.std.specs.Prelude.{◌≤◌};
     ghost use Rattle.vod_io.specs.System.{StreamView};
 
     ghost Value = { StreamView };
 
     ghost view = { λ s. record { err = s.err; faults = s.faults } };
+
+    ghost invariant = { λ s. s.len ≤ 65536 };
 }
 
 impl<R: Print + PrintErr> StdSink<R> {
@@ -169,8 +179,61 @@ impl<R: Print + PrintErr> StdSink<R> {
     pub fn new(rt: R, err: bool) -> StdSink<R>
         ensures { result ≡ record { err = err; faults = 0 } }
     {
-        StdSink { rt, err, faults: 0 }
+        StdSink {
+            rt,
+            err,
+            gathered: [0; GATHERED],
+            len: 0,
+            faults: 0,
+        }
     }
+
+    // Where the next byte is gathered; where there is no room, those that are gathered are written first.
+    fn free_place(&mut self) -> Result<usize, Failed>
+        ensures within { IfOk result (λ at. at < 65536) }
+        ensures caused { HasCause self.old.faults self.new.faults result }
+    {
+        if self.len < GATHERED {
+            return Ok(self.len);
+        }
+        self.flush()?;
+        Ok(0)
+    }
+}
+
+// Writes some of the bytes to standard error where `err` is true, and else to standard output.
+fn write_stream<R: Print + PrintErr>(rt: &R, err: bool, bytes: &[u8]) -> io::Result<usize>
+    ensures { IfOk result (λ n. n ≤ length bytes.now) }
+{
+    if err {
+        rt.write_err(bytes)
+    } else {
+        rt.write_some(bytes)
+    }
+}
+
+// Writes all the bytes; a stream that takes none of them fails.
+fn write_through<R: Print + PrintErr>(rt: &R, err: bool, bytes: &[u8]) -> Result<(), Failed> {
+    let mut rest = bytes;
+    while !rest.is_empty() {
+        match write_stream(rt, err, rest) {
+            Ok(count) if count > 0 => rest = &rest[count..],
+            _ => return Err(Failed),
+        }
+    }
+    Ok(())
+}
+
+// Puts as many of the bytes as there is room for behind those gathered, and answers how many.
+fn gather(gathered: &mut [u8], len: usize, piece: &[u8]) -> usize
+    requires { len < length gathered.old }
+    ensures within { result ≤ length piece.now }
+    ensures some { 0 < length piece.now → 0 < result }
+    ensures room { len + result ≤ length gathered.old }
+{
+    let count = piece.len().min(gathered.len() - len);
+    gathered[len..len + count].copy_from_slice(&piece[..count]);
+    count
 }
 
 impl<R: Print + PrintErr> Sink for StdSink<R> {
@@ -179,14 +242,18 @@ impl<R: Print + PrintErr> Sink for StdSink<R> {
     ghost faults = { λ s. s.faults };
 
     fn write(&mut self, piece: &[u8]) -> Result<usize, Failed> {
-        let written = if self.err {
-            self.rt.write_err(piece)
-        } else {
-            self.rt.write_some(piece)
-        };
-        match written {
-            Ok(count) if count > 0 || piece.is_empty() => Ok(count),
-            _ => {
+        let at = self.free_place()?;
+        let count = gather(&mut self.gathered, at, piece);
+        self.len = at + count;
+        Ok(count)
+    }
+
+    fn flush(&mut self) -> Result<(), Failed> {
+        let len = self.len;
+        self.len = 0;
+        match write_through(&self.rt, self.err, &self.gathered[..len]) {
+            Ok(()) => Ok(()),
+            Err(Failed) => {
                 self.faults = self.faults.saturating_add(1);
                 Err(Failed)
             }

@@ -20,6 +20,11 @@ pub trait Sink {
         ensures taken { IfOk result (λ n. taken self.new ≡ appended (taken self.old) (take n piece.now)) }
         ensures kept { OnErr result (taken self.new ≡ taken self.old) }
         ensures caused { HasCause (faults self.old) (faults self.new) result };
+
+    /// Passes on what a sink that gathers pieces has taken. Behind `Ok` all of it is where it goes.
+    fn flush(&mut self) -> Result<(), Failed>
+        ensures taken { taken self.new ≡ taken self.old }
+        ensures caused { HasCause (faults self.old) (faults self.new) result };
 }
 
 /// Writes the whole piece. After `Failed` the sink took a prefix of it.

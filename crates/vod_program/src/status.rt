@@ -186,6 +186,15 @@ fn put_line<E: Sink>(err: &mut E, fault: Fault) -> Result<(), Failed>
     put_all(err, ending(fault))
 }
 
+/// Writes the line of a fault, and flushes the sink.
+fn say<E: Sink>(err: &mut E, fault: Fault) -> Result<(), Failed>
+    ensures written { Written result (E.taken err.old) (E.taken err.new) (line_of fault) }
+    ensures caused { HasCause (E.faults err.old) (E.faults err.new) result }
+{
+    put_line(err, fault)?;
+    err.flush()
+}
+
 /// The LF behind a line; of a failed sink there is none.
 fn ending(fault: Fault) -> &'static [u8]
     ensures { result.now ≡ ending fault }
@@ -202,7 +211,7 @@ pub fn report<E: Sink>(fault: Fault, err: &mut E) -> Status
     ensures caused { (result ≡ status_of fault) ⊎ ((result ≡ Status.WriteFault) × Rose (E.faults err.old) (E.faults err.new)) }
     ensures counted { E.faults err.old ≤ E.faults err.new }
 {
-    match put_line(err, fault) {
+    match say(err, fault) {
         Ok(()) => status_of(fault),
         Err(_) => Status::WriteFault,
     }

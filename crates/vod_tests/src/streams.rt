@@ -62,6 +62,7 @@ fn standard_streams_are_written_through(rt: HostRuntime) -> Result<(), Fail> {
         (false, 0, b"abcde".as_slice(), Err(Failed), (4, 0)),
         (true, 0, b"".as_slice(), Ok(()), (0, 0)),
         (false, 5, b"a".as_slice(), Err(Failed), (5, 0)),
+        (true, 0, [0; 70_000].as_slice(), Err(Failed), (0, 4)),
     ] {
         let counts = (Cell::new(begun), Cell::new(0));
         let streams = Streams {
@@ -69,18 +70,17 @@ fn standard_streams_are_written_through(rt: HostRuntime) -> Result<(), Fail> {
             err: &counts.1,
         };
         let mut sink = StdSink::new(streams, err);
-        let written = put_all(&mut sink, piece);
+        let written = put_all(&mut sink, piece).and_then(|()| sink.flush());
         assert!(rt;
             written == answer && (counts.0.get(), counts.1.get()) == taken,
             "{piece:?}"
         );
     }
-    assert!(rt;
-        StdSink::new(rt, false)
-            .write(b"to standard output\n")
-            .is_ok()
-    );
-    assert!(rt; StdSink::new(rt, true).write(b"to standard error\n").is_ok());
+    for err in [false, true] {
+        let mut sink = StdSink::new(rt, err);
+        let written = put_all(&mut sink, b"to a standard stream\n").and_then(|()| sink.flush());
+        assert!(rt; written == Ok(()));
+    }
     Ok(())
 }
 

@@ -6,6 +6,7 @@ ghost use Rattle.vod_thin_design.specs.Netlist.{IsAccepted};
 ghost use Rattle.vod_thin_design.specs.Vectors.{IsLawful, last_time};
 ghost use Rattle.vod_thin_queue.specs.State.{State};
 ghost use Rattle.vod_thin_queue.specs.Run.{AreSlots};
+ghost use Rattle.vod_thin_vcd.specs.Dump.{closing_text};
 ghost use Rattle.vod_thin_vcd.specs.Stream.{window_text, rest_text};
 ghost use Rattle.vod_thin_window.specs.Moments.{moments};
 ghost use Rattle.vod_thin_window.specs.Request.{Request, dump_of, window_of, IsWritten, IsBegun};
@@ -103,7 +104,16 @@ fn skip<'v>(queue: &mut Queue<'_>, vectors: &'v [Vector], from: u64) -> &'v [Vec
     rest
 }
 
-/// Writes the slots of the vectors not past a time, and the close at that time.
+/// Writes the close at a time, and flushes the sink.
+fn finish<K: Sink>(writer: &mut Writer, time: u64, out: &mut K) -> Result<(), Failed>
+    ensures written { Written result (K.taken out.old) (K.taken out.new) (closing_text writer.old.printed time) }
+    ensures caused { HasCause (K.faults out.old) (K.faults out.new) result }
+{
+    writer.close(time, out)?;
+    out.flush()
+}
+
+/// Writes the slots of the vectors not past a time, and the close at that time, and flushes the sink.
 fn write_rest<K: Sink>(
     queue: &mut Queue<'_>,
     writer: &mut Writer,
@@ -124,7 +134,7 @@ fn write_rest<K: Sink>(
         writer.slot(vector.time, queue.values(), out)?;
         rest = behind;
     }
-    writer.close(to, out)
+    finish(writer, to, out)
 }
 
 /// Writes the header, the opening at a time, the slots from there on and not past another, and the close.

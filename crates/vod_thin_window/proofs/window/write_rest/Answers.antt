@@ -67,4 +67,4 @@ pub returns-clause-written : goal.returns-clause-written
 returns-clause-written g c =
     let kept = c.loop-vector.invariant in
     let over = rw c.in_default.is at c.due.ensures in
-    λ ends h. follows_close c.close.result c.args.queue.now.design c.args.queue.now.state c.loop-vector.queue.state c.args.writer.now.printed c.args.to c.loop-vector.writer.printed c.args.vectors.now _ _ _ c.loop-vector.rest.now kept.follows over c.close.ensures.written ends h
+    λ ends h. follows_close c.finish.result c.args.queue.now.design c.args.queue.now.state c.loop-vector.queue.state c.args.writer.now.printed c.args.to c.loop-vector.writer.printed c.args.vectors.now _ _ _ c.loop-vector.rest.now kept.follows over c.finish.ensures.written ends h
