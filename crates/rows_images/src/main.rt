@@ -3,7 +3,6 @@
 //! `|`, the numbers of an image's registers, and those of its inputs, and is answered with whether it fits.
 #![tactic(auto)]
 
-mod idle;
 mod row;
 
 use std::io;

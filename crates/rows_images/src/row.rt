@@ -1,6 +1,6 @@
 //! A row: an operation, the signals of a design, and an image.
 
-use crate::idle;
+use rows_idle::design;
 use rows_text::{Page, unescaped};
 use std::alloc::{AllocError, Global};
 use std::str;
@@ -130,7 +130,7 @@ fn design_of(alloc: Global, words: &str) -> Result<Option<Design>, AllocError> {
         count: 1,
         unit: Unit::Ns,
     };
-    idle::design(alloc, signals, scopes, precision)
+    design(alloc, signals, scopes, precision)
 }
 
 fn signals_of(alloc: Global, words: &str) -> Result<Vec<Signal>, AllocError> {

@@ -1,6 +1,0 @@
-use Rattle.std.proofs.Common.{◌≡◌, map, take}
-use Rattle.rows_images.specs.Idle.{initial_of}
-use Rattle.rows_images.proofs.idle.initials.Given as goal
-
-abbrev pub invariant-loop-register : goal.invariant-loop-register
-invariant-loop-register l = l.list.items ≡ map (initial_of l.signals) (take l.register-index l.registers)

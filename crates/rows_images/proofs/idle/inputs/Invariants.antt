@@ -1,6 +1,0 @@
-use Rattle.std.proofs.Common.{◌≡◌, map, take}
-use Rattle.rows_images.specs.Idle.{input_of}
-use Rattle.rows_images.proofs.idle.inputs.Given as goal
-
-abbrev pub invariant-loop-net : goal.invariant-loop-net
-invariant-loop-net l = l.list.items ≡ map input_of (take l.net-index l.nets)

@@ -1,6 +1,0 @@
-use Rattle.std.proofs.Common.{All, take}
-use Rattle.rows_images.specs.Idle.{SignalIsFine}
-use Rattle.rows_images.proofs.idle.signals_are_fine.Given as goal
-
-abbrev pub invariant-loop-signal : goal.invariant-loop-signal
-invariant-loop-signal l = All (SignalIsFine l.scopes) (take l.signal-index l.signals)
