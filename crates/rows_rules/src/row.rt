@@ -3,8 +3,10 @@ ghost use Rattle.std.specs.Prelude.{◌≤◌, length};
 
 use rows_text::{Page, unescaped};
 use std::alloc::{AllocError, Global};
+use vod_connections::first_name_fault;
 use vod_declared::first_declaration_fault;
 use vod_modules::{Modules, ModulesFault, modules_of};
+use vod_names::Memory;
 use vod_parse::read_source;
 use vod_token::tokens;
 use vod_tree::Tree;
@@ -17,12 +19,14 @@ const MOST_BYTES: usize = 1_048_576;
 enum Question {
     Modules,
     Declared,
+    Names,
 }
 
 fn question_of(word: &str) -> Option<Question> {
     match word {
         "modules" => Some(Question::Modules),
         "declared" => Some(Question::Declared),
+        "names" => Some(Question::Names),
         _ => None,
     }
 }
@@ -69,15 +73,16 @@ fn show_source(alloc: Global, page: &mut Page, question: Question, source: &[u8]
 fn show(alloc: Global, page: &mut Page, question: Question, tree: &Tree) {
     match question {
         Question::Modules => show_modules(page, tree, &modules_of(alloc, tree)),
-        Question::Declared => show_declared(alloc, page, tree),
+        Question::Declared => show_fault(page, &first_declaration_fault(alloc, tree)),
+        Question::Names => show_fault(page, &first_name_fault(alloc, tree)),
     }
 }
 
-fn show_declared(alloc: Global, page: &mut Page, tree: &Tree) {
-    match first_declaration_fault(alloc, tree) {
-        Ok(Some(place)) => page.placed("At", u64::from(place)),
+fn show_fault(page: &mut Page, fault: &Result<Option<u32>, Memory>) {
+    match fault {
+        Ok(Some(place)) => page.placed("At", u64::from(*place)),
         Ok(None) => page.word("fine"),
-        Err(memory) => page.shown(&memory),
+        Err(memory) => page.shown(memory),
     }
 }
 
