@@ -55,7 +55,7 @@ bits_end d signal low value left s end_ none is =
     let past : drop (length value - left) value ≡ [] = drop_of_length-le value (omega (arith, none)) in
     sym (ap (λ bits. put_all_in d (bits_written signal low bits) s) past) ∙ is
 
-any_default : {A : Type 0} (xs : List A) (i : ℕ) (x y : A) → i < length xs → get_or xs i x ≡ get_or xs i y
+pub any_default : {A : Type 0} (xs : List A) (i : ℕ) (x y : A) → i < length xs → get_or xs i x ≡ get_or xs i y
 any_default [] i x y h = absurd (omega arith)
 any_default (z ∷ xs) zero x y h = refl
 any_default (z ∷ xs) (suc i) x y h = any_default xs i x y (omega arith)

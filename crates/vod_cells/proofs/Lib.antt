@@ -5,3 +5,5 @@ pub mod Few
 pub mod Putting
 pub mod Bitwise
 pub mod Opening
+pub mod Events
+pub mod Bringing

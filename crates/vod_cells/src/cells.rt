@@ -1,20 +1,24 @@
 //! The values of a design's signals and memory words, with the drivers that await evaluation and the blocks that edges started.
-ghost use Rattle.std.specs.Prelude.{◌≡◌, ◌+◌, ◌<◌, ◌≤◌, ◌^◌, false, length, slice_set, All, IfOk};
+ghost use Rattle.std.specs.Prelude.{◌≡◌, ◌+◌, ◌<◌, ◌≤◌, ◌^◌, false, length, slice_set, All, IfOk, option_map, []};
 ghost use Rattle.vod_bits.specs.Bit.{BX};
 ghost use Rattle.vod_bits.specs.Value.{resize_bits};
 ghost use Rattle.vod_design.specs.declared.statement.Place.{Place};
+ghost use Rattle.vod_design.specs.Run.{eval};
 ghost use Rattle.vod_design.specs.Values.{value_at};
+ghost use Rattle.vod_eval.specs.Room.{room_of};
 ghost use Rattle.vod_slot.specs.State.{flag_at};
-ghost use Rattle.vod_slot.specs.Store.{ToWord, bits_written, places_written, list_at, word_at};
+ghost use Rattle.vod_slot.specs.Step.{pending};
+ghost use Rattle.vod_slot.specs.Store.{brought, bits_at, values_in, ToWord, bits_written, places_written, list_at, word_at};
 ghost use Rattle.vod_cells.specs.Stored.{put_in, put_all_in, stored_first};
 
+use crate::brought::{expression_value, pending_value};
 use crate::first::tables_of;
 use crate::listeners::Listeners;
 use crate::tables::Tables;
 use std::alloc::{AllocError, Global};
 use std::marker::Model;
 use vod_bits::Word;
-use vod_design::{Design, Place};
+use vod_design::{Design, Driver, Place, SizedExpr};
 use vod_four::Four;
 
 /// What a simulation stores of a design, which contracts see as the design and its values and flags.
@@ -79,6 +83,36 @@ impl<'d> Cells<'d> {
         ensures { result ≡ word_at self.now.stored.store memory place }
     {
         self.tables.memories[memory as usize].as_slice()[place as usize]
+    }
+
+    /// The value of an expression that stands in no function, such as an index or a right side in a block.
+    pub fn value_of(&self, e: &SizedExpr, room: &mut [Four]) -> Four
+        requires { room_of self.now.design.functions e.now ≤ length room.old }
+        ensures { result ≡ eval BX self.now.design.functions (values_in self.now.stored.store) [] e.now }
+    {
+        expression_value(
+            self.design.functions(),
+            self.tables.signals.as_slice(),
+            self.tables.memories.as_slice(),
+            e,
+            room,
+        )
+    }
+
+    /// Evaluates a driver: what it brings its target, where a value counts as extended by zeros or as its lower bits, and none where the
+    /// target has that already (6.1.2).
+    #[tactic(auto, unfolding(vod_slot::specs::Store::brought))]
+    pub fn evaluate(&self, driver: &Driver, room: &mut [Four]) -> Option<Four>
+        requires target { All (λ (p : Place). p.signal < length self.now.design.signals) driver.now.target }
+        requires room { room_of self.now.design.functions driver.now.value ≤ length room.old }
+        ensures { option_map (resize_bits (length driver.now.target) false) result ≡ pending (brought self.now.design self.now.stored.store driver.now) (bits_at self.now.stored.store driver.now.target) }
+    {
+        let value = self.value_of(&driver.value, room);
+        pending_value(
+            self.tables.signals.as_slice(),
+            driver.target.as_slice(),
+            value,
+        )
     }
 
     /// Whether a driver awaits evaluation.

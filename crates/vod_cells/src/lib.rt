@@ -3,11 +3,14 @@
 #![tactic(auto)]
 
 mod bits;
+mod brought;
 mod cells;
 mod first;
 mod flags;
+mod laws;
 mod listeners;
 mod reached;
 mod tables;
 
 pub use crate::cells::Cells;
+pub use crate::laws::writes_are_events;
