@@ -95,3 +95,6 @@ wide_at count i bits h =
     first_zeros (count - length bits) i (drop (length bits - count) bits) (omega arith)
     ∙ sym (ap (λ t. if t then bit_in bits (count - 1 - i) else B0) is))
     (cases_lt (count - 1 - i) (length bits))
+
+pub differ_in_size : (xs ys : List Bit) → (length xs ≡ length ys → ⊥) → true ≡ not (same_bits xs ys)
+differ_in_size xs ys h = sym (ap not (false_from_ne_true (same_bits xs ys) (λ is. h (ap length (same_bits-equal xs ys is)))))

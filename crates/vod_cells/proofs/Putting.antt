@@ -1,5 +1,5 @@
 -- A write, as the code makes it part by part.
-use Rattle.std.proofs.Common.{◌≡◌, ℕ, ◌<◌, ◌==◌, ◌||◌, ◌&&◌, not, Bool, true, false, List, [], ◌∷◌, length, map, flat_map, get_or, set, arith, refl, ap, ◌∙◌, sym, ⊎_elim, All, Option, None, Some, eq-eqb, slice_index_or}
+use Rattle.std.proofs.Common.{◌≡◌, ℕ, suc, zero, ◌<◌, ◌==◌, ◌||◌, ◌&&◌, not, Bool, true, false, List, [], ◌∷◌, length, map, flat_map, get_or, set, arith, refl, ap, ◌∙◌, sym, ⊎_elim, All, Option, None, Some, eq-eqb, slice_index_or, drop, option_map, slice_get}
 use Rattle.std.specs.List.{list_any}
 use Rattle.std.proofs.lemmas.Bool.{eqb-true, and_parts, or_cases, or_left}
 use Rattle.std.proofs.lemmas.List.{length-map, get_or_read}
@@ -11,9 +11,10 @@ use Rattle.vod_design.specs.declared.parts.Edge.{Edge}
 use Rattle.vod_design.specs.declared.parts.Signal.{Signal}
 use Rattle.vod_design.specs.Eval.{same_bit}
 use Rattle.vod_design.specs.declared.read.Read.{Read}
-use Rattle.vod_design.specs.declared.read.Read.TheVariants.{Whole, Bits, Word, Ram}
+use Rattle.vod_design.specs.declared.parts.Ram.{Ram}
+use Rattle.vod_design.specs.declared.read.Read.TheVariants as read
 use Rattle.vod_design.specs.Feeds.{is_read}
-use Rattle.vod_design.specs.Netlist.{Netlist}
+use Rattle.vod_design.specs.Netlist.{Netlist, or_0, word_count}
 use Rattle.vod_design.specs.Reads.{reads}
 use Rattle.vod_design.specs.Values.{value_at}
 use Rattle.vod_fanout.specs.FanOut.{each_from}
@@ -56,16 +57,16 @@ reads_whole : (s n : ℕ) → (s == n) ≡ true → has (n ∷ []) s ≡ true
 reads_whole s n h = let same = eqb-true s n h in or_left (n == s) false (eq-eqb n s (sym same))
 
 pub bit_reader : (s p : ℕ) (r : Read) → is_read (record { signal = s; bit = p }) r ≡ true → has (read_signal r) s ≡ true
-bit_reader s p (Whole n) h = reads_whole s n h
-bit_reader s p (Bits n low width) h = reads_whole s n (and_parts (s == n) _ h).0
-bit_reader s p (Word memory place) h = absurd (cc)
-bit_reader s p (Ram memory) h = absurd (cc)
+bit_reader s p (read.Whole n) h = reads_whole s n h
+bit_reader s p (read.Bits n low width) h = reads_whole s n (and_parts (s == n) _ h).0
+bit_reader s p (read.Word memory place) h = absurd (cc)
+bit_reader s p (read.Ram memory) h = absurd (cc)
 
 pub word_reader : (m p : ℕ) (r : Read) → is_word_read m p r ≡ true → has (read_memory r) m ≡ true
-word_reader m p (Whole n) h = absurd (cc)
-word_reader m p (Bits n low width) h = absurd (cc)
-word_reader m p (Word memory place) h = or_left (memory == m) false (and_parts (memory == m) (place == p) h).0
-word_reader m p (Ram memory) h = or_left (memory == m) false h
+word_reader m p (read.Whole n) h = absurd (cc)
+word_reader m p (read.Bits n low width) h = absurd (cc)
+word_reader m p (read.Word memory place) h = or_left (memory == m) false (and_parts (memory == m) (place == p) h).0
+word_reader m p (read.Ram memory) h = or_left (memory == m) false h
 
 -- the drivers that are woken by the table are those that can read what was written
 pub woken : (test : Read → Bool) (give : Read → List ℕ) (n : ℕ) (drivers : List Driver) (lists : List (List Read)) (flags new : List Bool) (list : List ℕ) → ((r : Read) → test r ≡ true → has (give r) n ≡ true) → lists ≡ map (λ (a : Driver). reads a.value) drivers →
@@ -191,3 +192,30 @@ word_put d m p word old words list held new st now wake changed same shaped with
     let begun : now.started ≡ raised (starts now.store (ToWord m p word)) d.blocks now.started = sym (raised-none (starts now.store (ToWord m p word)) d.blocks now.started (no_edge now.store m p word)) in
     let whole : record { store = record { signals = now.store.signals; memories = set now.store.memories m new }; wake = wake; started = now.started } ≡ put_in d (ToWord m p word) now = stored_is now.store.signals (set now.store.memories m new) (set now.store.memories m (set (list_at now.store.memories m) p word)) wake _ now.started _ (ap (set now.store.memories m) values) roused begun in
     whole ∙ ap (put_in d (ToWord m p word)) same
+
+abbrev first_or : ℕ → List ℕ → ℕ
+first_or d [] = d
+first_or d (n ∷ ns) = n
+
+-- a place for each word
+words_there : (lists : List (List (List Bit))) (ms : List Ram) (m p : ℕ) → map length lists ≡ map (λ (r : Ram). r.words) ms → p < or_0 (option_map (λ (r : Ram). r.words) (slice_get ms m)) → (m < length lists) × (p < length (list_at lists m))
+words_there [] [] m p same h = absurd (omega arith)
+words_there [] (r ∷ ms) m p same h = absurd (cc)
+words_there (words ∷ lists) [] m p same h = absurd (cc)
+words_there (words ∷ lists) (r ∷ ms) zero p same h =
+    let one : length words ≡ r.words = ap (first_or 0) same in
+    (omega arith, omega (arith, one, h))
+words_there (words ∷ lists) (r ∷ ms) (suc m) p same h =
+    let more = words_there lists ms m p (ap (drop 1) same) h in
+    (omega (arith, more.0), more.1)
+
+pub words_stored : (d : Netlist) (s t : Stored) (m p : ℕ) → t ≡ s → IsStoredOf d s → p < word_count d m → (m < length t.store.memories) × (p < length (list_at t.store.memories m))
+words_stored d s t m p is h within = rw is (words_there s.store.memories d.memories m p h.memories within)
+
+memories_there : (ms : List Ram) (m p : ℕ) → p < or_0 (option_map (λ (r : Ram). r.words) (slice_get ms m)) → m < length ms
+memories_there [] m p h = absurd (omega arith)
+memories_there (r ∷ ms) zero p h = omega arith
+memories_there (r ∷ ms) (suc m) p h = let more = memories_there ms m p h in omega (arith, more)
+
+pub memory_there : (d : Netlist) (m p : ℕ) → p < word_count d m → m < length d.memories
+memory_there d m p h = memories_there d.memories m p h

@@ -75,11 +75,13 @@ fn below_upper(value: Four, place: u8, low: Four) -> Four
     }
 }
 
-/// Whether two values of one width differ, x and z included.
-#[tactic(auto, using(crate::proofs::OneBit::differ))]
+/// Whether two values differ, x and z included.
+#[tactic(auto, using(crate::proofs::OneBit::differ, crate::proofs::OneBit::differ_in_size))]
 pub fn differ(one: Four, other: Four) -> bool
-    requires { length one ≡ length other }
     ensures { result ≡ not (same_bits one other) }
 {
+    if one.size() != other.size() {
+        return true;
+    }
     !one.case_eq(other)
 }

@@ -3,12 +3,13 @@ ghost use Rattle.std.specs.Prelude.{◌≡◌, ◌+◌, ◌<◌, ◌≤◌, ◌^
 ghost use Rattle.vod_bits.specs.Bit.{BX};
 ghost use Rattle.vod_bits.specs.Value.{resize_bits};
 ghost use Rattle.vod_design.specs.declared.statement.Place.{Place};
+ghost use Rattle.vod_design.specs.Netlist.{word_count};
 ghost use Rattle.vod_design.specs.Run.{eval};
 ghost use Rattle.vod_design.specs.Values.{value_at};
 ghost use Rattle.vod_eval.specs.Room.{room_of};
 ghost use Rattle.vod_slot.specs.State.{flag_at};
 ghost use Rattle.vod_slot.specs.Step.{pending};
-ghost use Rattle.vod_slot.specs.Store.{brought, bits_at, values_in, ToWord, bits_written, places_written, list_at, word_at};
+ghost use Rattle.vod_slot.specs.Store.{brought, bits_at, values_in, ToWord, bits_written, places_written, word_at};
 ghost use Rattle.vod_cells.specs.Stored.{put_in, put_all_in, stored_first};
 
 use crate::brought::{expression_value, pending_value};
@@ -78,11 +79,10 @@ impl<'d> Cells<'d> {
 
     /// A word of a memory, by its place from the least index up (4.9).
     pub fn word(&self, memory: u32, place: u32) -> Four
-        requires memory { memory < length self.now.design.memories }
-        requires place { place < length (list_at self.now.stored.store.memories memory) }
+        requires { place < word_count self.now.design memory }
         ensures { result ≡ word_at self.now.stored.store memory place }
     {
-        self.tables.memories[memory as usize].as_slice()[place as usize]
+        self.tables.word(memory, place)
     }
 
     /// The value of an expression that stands in no function, such as an index or a right side in a block.
@@ -167,11 +167,9 @@ impl<'d> Cells<'d> {
             .put_places(self.design, &self.listeners, places, value);
     }
 
-    /// A word of a memory takes a value of its width: where that changes it, the drivers that can read it await evaluation.
+    /// A word of a memory, by its place from the least index up, takes a value: where that changes it, the drivers that can read it await evaluation.
     pub fn put_word(&mut self, memory: u32, place: Word, word: Four)
-        requires memory { memory < length self.old.design.memories }
-        requires place { place < length (list_at self.old.stored.store.memories memory) }
-        requires width { length word ≡ length (word_at self.old.stored.store memory place) }
+        requires { place < word_count self.old.design memory }
         ensures { self.new ≡ record self.old { stored = put_in self.old.design (ToWord memory place word) self.old.stored } }
     {
         self.tables

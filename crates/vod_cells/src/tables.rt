@@ -39,6 +39,15 @@ impl Model for Tables {
 }
 
 impl Tables {
+    /// A word of a memory.
+    pub fn word(&self, memory: u32, place: u32) -> Four
+        requires memory { memory < length self.now.store.memories }
+        requires place { place < length (list_at self.now.store.memories memory) }
+        ensures { result ≡ word_at self.now.store memory place }
+    {
+        self.memories[memory as usize].as_slice()[place as usize]
+    }
+
     /// A bit of a signal takes a value: where that changes it, the drivers that can read it await evaluation; and where it is an
     /// edge, it came for the blocks that name it.
     pub fn put_bit(
@@ -90,7 +99,6 @@ impl Tables {
         requires listed { AreListeners design.now.netlist listeners.now }
         requires within { memory < length design.now.netlist.memories }
         requires inside { place < length (list_at self.old.store.memories memory) }
-        requires width { length word ≡ length (word_at self.old.store memory place) }
         ensures { self.new ≡ put_in design.now.netlist (ToWord memory place word) self.old }
     {
         let old = self.memories[memory as usize].as_slice()[place as usize];
