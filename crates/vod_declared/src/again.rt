@@ -25,8 +25,8 @@ pub(crate) fn first_declared_again<'s>(
     Ok(first)
 }
 
-// Whether a declaration is one too many, after the last one of its name.
-fn is_repeated(last: Option<Declaration>, declaration: Declaration) -> bool
+/// Whether a declaration is one too many, after the last one of its name (IEEE 1364-2005, 4.11, 12.3.3).
+pub fn is_repeated(last: Option<Declaration>, declaration: Declaration) -> bool
     ensures { result ≡ is_repeated last declaration }
 {
     match last {

@@ -7,4 +7,5 @@ mod function;
 mod ports;
 mod source;
 
+pub use again::is_repeated;
 pub use source::{first_declaration_fault, names_are_declared_once};

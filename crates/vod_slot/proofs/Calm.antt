@@ -40,7 +40,7 @@ use Rattle.vod_slot.proofs.Rooms.{nets_edges, openings_at_most}
 
 -- edge nets keep what they have
 
-data_no_edge : (d : Netlist) (ranked : List ℕ) → IsAccepted d ranked → (i : ℕ) (x y : Input) → slice_get d.inputs i ≡ Some x → Contains d.inputs y → x.class ≡ Data → y.class ≢ Data → (n : ℕ) → n ≡ x.signal → Follows d y.signal n → ⊥
+pub data_no_edge : (d : Netlist) (ranked : List ℕ) → IsAccepted d ranked → (i : ℕ) (x y : Input) → slice_get d.inputs i ≡ Some x → Contains d.inputs y → x.class ≡ Data → y.class ≢ Data → (n : ℕ) → n ≡ x.signal → Follows d y.signal n → ⊥
 data_no_edge d ranked h i x y at stands is_data edge n is itself =
     let p = place_in d.inputs y stands in
     ⊎_elim
@@ -163,12 +163,12 @@ places_of P Q f (b ∷ places) (bit ∷ bits) h = All-cons P (ToBit b.signal b.b
 
 -- what a whole value that is written gives
 
-bit_behind : (b : Bit) (bits : List Bit) (p : ℕ) → p < length bits → bit_in (b ∷ bits) p ≡ bit_in bits p
+pub bit_behind : (b : Bit) (bits : List Bit) (p : ℕ) → p < length bits → bit_in (b ∷ bits) p ≡ bit_in bits p
 bit_behind b bits p h =
     let e : suc (length bits) - (p + 1) ≡ suc (length bits - (p + 1)) = omega arith in
     in_within (b ∷ bits) p (omega arith) ∙ ap (λ k. get_or (b ∷ bits) k BX) e ∙ sym (in_within bits p h)
 
-bit_first : (b : Bit) (bits : List Bit) → bit_in (b ∷ bits) (length bits) ≡ b
+pub bit_first : (b : Bit) (bits : List Bit) → bit_in (b ∷ bits) (length bits) ≡ b
 bit_first b bits = let e : suc (length bits) - (length bits + 1) ≡ 0 = omega arith in in_within (b ∷ bits) (length bits) (omega arith) ∙ ap (λ k. get_or (b ∷ bits) k BX) e
 
 abbrev place_at : ℕ → ℕ → Place

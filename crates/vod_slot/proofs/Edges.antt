@@ -83,7 +83,7 @@ pub none_there : {A : Type 0} (v : A) → None ≡ Some v → ⊥
 none_there v e = let clash : false ≡ true = ap is_some e in cc
 
 -- what is left of a list of optional values where one was taken
-left_at : {A : Type 0} (xs : List (Option A)) (i k : ℕ) (v : A) → option_at (set xs i None) k ≡ Some v → option_at xs k ≡ Some v
+pub left_at : {A : Type 0} (xs : List (Option A)) (i k : ℕ) (v : A) → option_at (set xs i None) k ≡ Some v → option_at xs k ≡ Some v
 left_at [] i k v h = h
 left_at (x ∷ xs) zero zero v h = absurd (none_there v h)
 left_at (x ∷ xs) zero (suc k) v h = h

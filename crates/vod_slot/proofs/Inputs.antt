@@ -100,7 +100,7 @@ given_ran : (d : Netlist) (i k : ℕ) (x : Input) (v : List Bit) (statements : L
 given_ran d i k x v [] s given = given
 given_ran d i k x v (t ∷ statements) s given = given
 
-given_after : (d : Netlist) (ranked : List ℕ) → IsAccepted d ranked → (i : ℕ) (x : Input) (v : List Bit) (s : State) (event : Event) → slice_get d.inputs i ≡ Some x → length v ≡ signal_width d x.signal → IsConsistent d s → IsTrue (is_allowed s event) → IsGiven i x v s → IsGiven i x v (after d s event)
+pub given_after : (d : Netlist) (ranked : List ℕ) → IsAccepted d ranked → (i : ℕ) (x : Input) (v : List Bit) (s : State) (event : Event) → slice_get d.inputs i ≡ Some x → length v ≡ signal_width d x.signal → IsConsistent d s → IsTrue (is_allowed s event) → IsGiven i x v s → IsGiven i x v (after d s event)
 given_after d ranked h i x v s (TakeMove k) at size c allowed given = given_taken d ranked h i k x v s at size c allowed given
 given_after d ranked h i x v s (Evaluate j) at size c allowed given = given_evaluated d i j x v (slice_get d.drivers j) s given
 given_after d ranked h i x v s (UpdateDriver j) at size c allowed given = given_updated d ranked h i j x v s (slice_get d.drivers j) (unwrap_or (option_at s.pend j) []) at refl given
@@ -114,7 +114,7 @@ given_after d ranked h i x v s (Perform m) at size c allowed given =
     given_put d i x v s (record s { now = set s.now m (drop 1 (list_at s.now m)) }) (flat_map update_written (take 1 (list_at s.now m)))
     (updates_other d x.signal (take 1 (list_at s.now m)) (input_net d ranked h i x at) (some_of (UpdateWrites d) (list_at s.now m) (all_in (UpdateWrites d) s.now m c.registers.now))) refl refl given
 
-given_end : HangsOnReads → (d : Netlist) (ranked : List ℕ) → IsAccepted d ranked → (i : ℕ) (x : Input) (v : List Bit) (s t : State) (events : List Event) → slice_get d.inputs i ≡ Some x → length v ≡ signal_width d x.signal → IsConsistent d s → Steps d s events t → IsGiven i x v s → IsGiven i x v t
+pub given_end : HangsOnReads → (d : Netlist) (ranked : List ℕ) → IsAccepted d ranked → (i : ℕ) (x : Input) (v : List Bit) (s t : State) (events : List Event) → slice_get d.inputs i ≡ Some x → length v ≡ signal_width d x.signal → IsConsistent d s → Steps d s events t → IsGiven i x v s → IsGiven i x v t
 given_end hangs d ranked h i x v s t [] at size c steps given = subst (IsGiven i x v) (sym steps) given
 given_end hangs d ranked h i x v s t (event ∷ events) at size c steps given =
     given_end hangs d ranked h i x v (after d s event) t events at size (IsConsistent-after hangs d ranked s event h c steps.0) steps.1 (given_after d ranked h i x v s event at size c steps.0 given)

@@ -21,7 +21,7 @@ use Rattle.vod_slot.specs.declared.event.Event.TheVariants.{TakeMove, Evaluate, 
 use Rattle.vod_slot.specs.Store.{Write, ToBit, list_at, bit_in, brought, bits_at, bits_written, places_written}
 use Rattle.vod_slot.specs.State.{State, option_at, input_signals, is_input, first_value, start_of, opened, IsResting}
 use Rattle.vod_slot.specs.Step.{Event, is_allowed, after, put_all, evaluated, target_of, ran, initial_written, update_written}
-use Rattle.vod_slot.specs.Run.{Steps}
+use Rattle.vod_slot.specs.Run.{Steps, Completes}
 use Rattle.vod_slot.specs.Shape.{UpdateWrites, InitialWrites}
 use Rattle.vod_slot.specs.Settled.{IsSettled, IsConsistent}
 use Rattle.vod_slot.specs.Edges.{IsLink, edge_bit, AreEdgesKept, DoMovesFit}
@@ -192,30 +192,32 @@ link_settled d ranked h s c settled j from to a l =
     = sym has ∙ all_at (λ (x : Driver). bits_at s.store x.target ≡ brought d s.store x) d.drivers j a settled l.at ∙ link_brings d ranked h s.store c.shaped.sizes j from to a l in
     ap upper_bit e
 
-pub AreEdgesKept-opened : HangsOnReads → (d : Netlist) (ranked : List ℕ) (s : State) (moves : List Move) → IsAccepted d ranked → IsConsistent d s → IsResting s → DoMovesFit d moves → (brings : ℕ → Bit) × AreEdgesKept d (edge_bit s.store) brings (opened d moves s)
-AreEdgesKept-opened hangs d ranked s moves h c rests fit =
+-- what a slot brings its edge nets is what they have at an end of it
+pub edges_opened : HangsOnReads → (d : Netlist) (ranked : List ℕ) (s t : State) (moves : List Move) → IsAccepted d ranked → IsConsistent d s → IsResting s → DoMovesFit d moves → Completes d (opened d moves s) t → AreEdgesKept d (edge_bit s.store) (edge_bit t.store) (opened d moves s)
+edges_opened hangs d ranked s t moves h c rests fit completes =
     let st = opened d moves s in
     let open_ = IsConsistent-opened d s moves c in
-    let p = can_complete hangs d ranked st h open_ in
-    let t = p.0 in
-    let end = slot_end hangs d ranked st t h open_ p.1 in
+    let end = slot_end hangs d ranked st t h open_ completes in
     let brings : ℕ → Bit = edge_bit t.store in
     let here = link_settled d ranked h s c (IsSettled-at_rest d s c rests) in
-    let there = link_settled d ranked h t end.0 end.1 in (
-      brings,
-      record {
-        values = λ n net. inl refl;
-        moves = λ i x v at net is.
-            let same : 0 + i ≡ i = omega arith in
-            let given : assigned moves i ≡ Some v = ap (assigned moves) (sym same) ∙ moves_at (assigned moves) 0 d.inputs i v is in
-            let one : v ≡ bit_in v 0 ∷ [] = single v (fit i x v at given ∙ h.edge_bits x.signal net) in
-            let last = given_end hangs d ranked h i x (bit_in v 0) st t p.1.events at net open_ p.1.steps (inl (is ∙ ap Some one)) in
-            let bit : edge_bit t.store x.signal ≡ bit_in v 0
-            = ⊎_elim (λ l. absurd (none_there (bit_in v 0 ∷ []) (sym (default_at None t.moves p.1.ends.moves i) ∙ l))) (λ r. r.1) last in
-            one ∙ ap (λ b. b ∷ []) (sym bit);
-        sources = λ j from to a l is. sym (here j from to a l) ∙ is ∙ there j from to a l;
-        pend = λ j from to a v l is. absurd (none_there v (sym (default_at None s.pend rests.pend j) ∙ is));
-        openings_agree = here;
-        brought_agree = there;
-      },
-    )
+    let there = link_settled d ranked h t end.0 end.1 in
+    record {
+      values = λ n net. inl refl;
+      moves = λ i x v at net is.
+          let same : 0 + i ≡ i = omega arith in
+          let given : assigned moves i ≡ Some v = ap (assigned moves) (sym same) ∙ moves_at (assigned moves) 0 d.inputs i v is in
+          let one : v ≡ bit_in v 0 ∷ [] = single v (fit i x v at given ∙ h.edge_bits x.signal net) in
+          let last = given_end hangs d ranked h i x (bit_in v 0) st t completes.events at net open_ completes.steps (inl (is ∙ ap Some one)) in
+          let bit : edge_bit t.store x.signal ≡ bit_in v 0
+          = ⊎_elim (λ l. absurd (none_there (bit_in v 0 ∷ []) (sym (default_at None t.moves completes.ends.moves i) ∙ l))) (λ r. r.1) last in
+          one ∙ ap (λ b. b ∷ []) (sym bit);
+      sources = λ j from to a l is. sym (here j from to a l) ∙ is ∙ there j from to a l;
+      pend = λ j from to a v l is. absurd (none_there v (sym (default_at None s.pend rests.pend j) ∙ is));
+      openings_agree = here;
+      brought_agree = there;
+    }
+
+pub AreEdgesKept-opened : HangsOnReads → (d : Netlist) (ranked : List ℕ) (s : State) (moves : List Move) → IsAccepted d ranked → IsConsistent d s → IsResting s → DoMovesFit d moves → (brings : ℕ → Bit) × AreEdgesKept d (edge_bit s.store) brings (opened d moves s)
+AreEdgesKept-opened hangs d ranked s moves h c rests fit =
+    let p = can_complete hangs d ranked (opened d moves s) h (IsConsistent-opened d s moves c) in
+    (edge_bit p.0.store, edges_opened hangs d ranked s p.0 moves h c rests fit p.1)

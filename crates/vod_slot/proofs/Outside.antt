@@ -183,7 +183,7 @@ no_start store w (b ∷ blocks) h =
     let q = or_none (list_any (touches w) (reset_read b.reset)) (list_any (touches w) (awaited blocks)) (sym (list_any-append (touches w) (reset_read b.reset) (awaited blocks)) ∙ p.1) in
     All-cons (λ c. starts store w c ≡ false) b blocks (rw (no_edge store w b.clock p.0) (no_reset store w b.reset q.0)) (no_start store w blocks q.1)
 
-begun_none : (edge : Bool) (b : Block) (statements : List Statement) → edge ≡ false → begun edge b statements ≡ statements
+pub begun_none : (edge : Bool) (b : Block) (statements : List Statement) → edge ≡ false → begun edge b statements ≡ statements
 begun_none true b statements h = absurd (cc)
 begun_none false b [] h = refl
 begun_none false b (s ∷ statements) h = refl

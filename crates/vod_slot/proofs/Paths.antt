@@ -49,7 +49,7 @@ stands_mapped f xs x h = let p = place_in xs x h in stands_at (map f xs) p.0 (f 
     mapped_at (y ∷ ys) (suc k) at = mapped_at ys k at
 
 -- an expression that is the whole of a net reads that alone
-kind_at : (e : SizedExpr) (x : SizedKind-F SizedKind SizedExpr) → e.kind ≡ roll-SizedKind x
+pub kind_at : (e : SizedExpr) (x : SizedKind-F SizedKind SizedExpr) → e.kind ≡ roll-SizedKind x
     → reads e ≡ kind_reads (map-SizedKind SizedKind SizedExpr (List Read) (List Read) (fold-SizedKind (List Read) (List Read) kind_reads (λ e. e.kind)) reads x)
 unfolding reads
 kind_at e x is = fold_out-SizedExpr (List Read) (List Read) kind_reads (λ e. e.kind) e ∙ ap (λ k. fold-SizedKind (List Read) (List Read) kind_reads (λ e. e.kind) k) is ∙ fold-roll-SizedKind (List Read) (List Read) kind_reads (λ e. e.kind) x

@@ -216,7 +216,7 @@ start_uses o e store w b between brings is =
 times_falls : (m a b : ℕ) → a ≤ b → m * a ≤ m * b
 times_falls m a b le = mul-le-mul_left m le
 
-begun_at : (edge : Block → Bool) (blocks : List Block) (todo : List (List Statement)) (k : ℕ) (b : Block) → slice_get blocks k ≡ Some b → k < length todo → list_at (triggered edge blocks todo) k ≡ begun (edge b) b (list_at todo k)
+pub begun_at : (edge : Block → Bool) (blocks : List Block) (todo : List (List Statement)) (k : ℕ) (b : Block) → slice_get blocks k ≡ Some b → k < length todo → list_at (triggered edge blocks todo) k ≡ begun (edge b) b (list_at todo k)
 begun_at edge [] todo k b at lt = absurd (cc)
 begun_at edge (c ∷ blocks) [] k b at lt = absurd (omega arith)
 begun_at edge (c ∷ blocks) (ss ∷ todo) zero b at lt = ap (λ x. begun (edge x) x ss) (same_Some c b at)

@@ -213,7 +213,7 @@ same_stores hangs d ranked h s t stores =
     (λ b is c a at stands. All-contains (SameTarget d s t) ranked c each (h.order.each.all c (slice_get_within d.drivers c a at)) a at)) in
     store_same s t signals stores.agree.memories
 
-same_lists : {A : Type 0} (x : A) (xs ys : List A) → length xs ≡ length ys → All (λ y. y ≡ x) xs → All (λ y. y ≡ x) ys → xs ≡ ys
+pub same_lists : {A : Type 0} (x : A) (xs ys : List A) → length xs ≡ length ys → All (λ y. y ≡ x) xs → All (λ y. y ≡ x) ys → xs ≡ ys
 same_lists x [] [] len h k = refl
 same_lists x [] (y ∷ ys) len h k = absurd (omega arith)
 same_lists x (z ∷ xs) [] len h k = absurd (omega arith)

@@ -7,3 +7,5 @@ pub mod Run
 pub mod Weight
 pub mod Edges
 pub mod Room
+pub mod Stack
+pub mod Classes

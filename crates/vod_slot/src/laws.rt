@@ -1,21 +1,24 @@
 //! What holds of the queue in every order of its events.
-ghost use Rattle.std.specs.Prelude.{◌≡◌, ◌⊎◌, ◌<◌, ◌≤◌, ◌+◌, ◌*◌, ℕ, List, IsTrue, length, true, Some, slice_get, unwrap_or};
+ghost use Rattle.std.specs.Prelude.{◌≡◌, ◌⊎◌, ◌<◌, ◌≤◌, ◌+◌, ◌*◌, ℕ, List, [], ◌∷◌, ◌++◌, IsTrue, length, true, Some, slice_get, unwrap_or};
 ghost use Rattle.vod_bits.specs.Bit.{Bit, BX, BZ};
 ghost use Rattle.vod_design.specs.declared.parts.Block.{Block};
 ghost use Rattle.vod_design.specs.declared.parts.Driver.{Driver};
 ghost use Rattle.vod_design.specs.declared.parts.Input.{Input};
+ghost use Rattle.vod_design.specs.declared.vector.Class.{Class};
 ghost use Rattle.vod_design.specs.declared.vector.Move.{Move};
 ghost use Rattle.vod_design.specs.declared.vector.Vector.{Vector};
 ghost use Rattle.vod_design.specs.Accepted.{IsAccepted};
-ghost use Rattle.vod_design.specs.Lawful.{assigned};
-ghost use Rattle.vod_design.specs.Netlist.{Netlist};
+ghost use Rattle.vod_design.specs.Lawful.{assigned, IsInForm, IsUnmixed, IsLawful};
+ghost use Rattle.vod_design.specs.Netlist.{Netlist, ports};
 ghost use Rattle.vod_design.specs.Values.{value_at};
 ghost use Rattle.vod_slot.specs.Store.{Write, brought, list_at};
 ghost use Rattle.vod_slot.specs.State.{State, flag_at, start_of, opened, IsResting};
 ghost use Rattle.vod_slot.specs.Step.{Event, is_allowed, after, put_all};
 ghost use Rattle.vod_slot.specs.Run.{Steps, Completes, IsSlot, IsRun, ChangesData};
+ghost use Rattle.vod_slot.specs.Classes.{ChangesClass, HaveGiven};
 ghost use Rattle.vod_slot.specs.Edges.{edge_bit, AreEdgesKept, DoMovesFit};
 ghost use Rattle.vod_slot.specs.Room.{updates_room, statement_most, nets_of, IsRoomKept};
+ghost use Rattle.vod_slot.specs.Stack.{statements_most, IsStackKept};
 ghost use Rattle.vod_slot.specs.Settled.{AgreeFirst, IsConsistent, IsSettled};
 ghost use Rattle.vod_slot.specs.Weight.{weight_of};
 
@@ -79,6 +82,21 @@ pub fn updates_have_room()
     ensures suffices { (d : Netlist) (opening : ℕ → Bit) (s : State) (k : ℕ) (b : Block) → slice_get d.blocks k ≡ Some b → IsRoomKept d opening s → updates_room (list_at s.later k) + updates_room (list_at s.now k) ≤ statement_most b.body * length (nets_of b) }
 {}
 
+/// At every moment of a run the statements of a block that are left at once number at most the most that its body can leave.
+pub fn statements_have_room()
+    ensures start { (d : Netlist) → IsStackKept d (start_of d) }
+    ensures opened { (d : Netlist) (s : State) (moves : List Move) → IsResting s → IsStackKept d (opened d moves s) }
+    ensures after { (d : Netlist) (s : State) (event : Event) → IsStackKept d s → IsStackKept d (after d s event) }
+    ensures suffices { (d : Netlist) (s : State) (k : ℕ) (b : Block) → slice_get d.blocks k ≡ Some b → IsStackKept d s → length (list_at s.todo k) ≤ statements_most b.body }
+{}
+
+/// Whatever order of events was taken, slot 0 ends in one state.
+pub fn first_slots_end_alike()
+    ensures { (d : Netlist) (ranked : List ℕ) (t u : State) → IsAccepted d ranked → Completes d (start_of d) t → Completes d (start_of d) u → t ≡ u }
+{
+    value_hangs_on_reads();
+}
+
 /// Whatever order of events was taken, a slot that changes data alone ends in one state.
 pub fn data_slots_end_alike()
     ensures { (d : Netlist) (ranked : List ℕ) (s t u : State) (moves : List Move) → IsAccepted d ranked → IsConsistent d s → DoMovesFit d moves → ChangesData d s moves → IsSlot d s moves t → IsSlot d s moves u → t ≡ u }
@@ -86,9 +104,36 @@ pub fn data_slots_end_alike()
     value_hangs_on_reads();
 }
 
+/// Whatever order of events was taken, a slot that changes clocks alone, resets alone or data alone ends in one state.
+pub fn slots_end_alike()
+    ensures { (d : Netlist) (ranked : List ℕ) (s t u : State) (moves : List Move) (class : Class) → IsAccepted d ranked → IsConsistent d s → DoMovesFit d moves → ChangesClass d s moves class → IsSlot d s moves t → IsSlot d s moves u → t ≡ u }
+{
+    value_hangs_on_reads();
+}
+
 /// After a slot each input has what it was assigned, and one that wasn't has what it had.
 pub fn inputs_take_moves()
     ensures { (d : Netlist) (ranked : List ℕ) (s t : State) (moves : List Move) (i : ℕ) (x : Input) → IsAccepted d ranked → IsConsistent d s → DoMovesFit d moves → IsSlot d s moves t → slice_get d.inputs i ≡ Some x → value_at BX t.store.signals x.signal ≡ unwrap_or (assigned moves i) (value_at BX s.store.signals x.signal) }
+{
+    value_hangs_on_reads();
+}
+
+/// After slot 0 each input is z, and after each slot it has what the vectors so far gave it last. So the assignments of a lawful vector
+/// change clocks alone, resets alone or data alone.
+pub fn inputs_have_given()
+    ensures first { (d : Netlist) (ranked : List ℕ) (t : State) → IsAccepted d ranked → Completes d (start_of d) t → HaveGiven d [] t }
+    ensures next { (d : Netlist) (ranked : List ℕ) (before : List Vector) (v : Vector) (s t : State) → IsAccepted d ranked → IsConsistent d s → IsInForm (ports d) v → HaveGiven d before s → IsSlot d s v.moves t → HaveGiven d (before ++ v ∷ []) t }
+    ensures fits { (d : Netlist) (v : Vector) → IsInForm (ports d) v → DoMovesFit d v.moves }
+    ensures unmixed { (d : Netlist) (before : List Vector) (v : Vector) (s : State) → HaveGiven d before s → IsUnmixed (ports d) before v → (class : Class) × ChangesClass d s v.moves class }
+{
+    value_hangs_on_reads();
+}
+
+/// Whatever order of events was taken, the slot of a lawful vector ends in one state; so all legal runs of the same lawful vectors have
+/// the same ends.
+pub fn orders_agree()
+    ensures one_end { (d : Netlist) (ranked : List ℕ) (before : List Vector) (v : Vector) (s t u : State) → IsAccepted d ranked → IsConsistent d s → HaveGiven d before s → IsInForm (ports d) v → IsUnmixed (ports d) before v → IsSlot d s v.moves t → IsSlot d s v.moves u → t ≡ u }
+    ensures one_run { (d : Netlist) (ranked : List ℕ) (vectors : List Vector) (first again : State) (ends others : List State) → IsAccepted d ranked → IsLawful (ports d) vectors → IsRun d vectors first ends → IsRun d vectors again others → (first ≡ again) × (ends ≡ others) }
 {
     value_hangs_on_reads();
 }

@@ -1,6 +1,7 @@
 //! Names in expressions.
 ghost use Rattle.std.specs.Prelude.{◌≡◌, flat_map};
 ghost use Rattle.vod_places.specs.Places.{least};
+ghost use Rattle.vod_uses.specs.Visible.{seen};
 ghost use Rattle.vod_uses.specs.Uses.{misuses};
 
 use crate::scope::{Scope, Usage, misused, uncallable};
@@ -9,8 +10,8 @@ use vod_tree::{Expr, ExprKind};
 
 /// The least place of a name in an expression that isn't declared as what it is used for.
 #[cycle(misuse)]
-pub fn first_misuse(scope: &Scope<'_, '_>, e: &Expr) -> Option<u32>
-    ensures { result ≡ least (misuses scope.now e.now) }
+pub fn first_misuse(scope: &Scope<'_, '_, '_>, e: &Expr) -> Option<u32>
+    ensures { result ≡ least (misuses (seen scope.now) e.now) }
 {
     match &e.kind {
         ExprKind::Number(_) => None,
@@ -25,7 +26,7 @@ pub fn first_misuse(scope: &Scope<'_, '_>, e: &Expr) -> Option<u32>
         }
         ExprKind::Call(ident, arguments) => {
             let inside = first_misuse_of(scope, arguments.as_slice());
-            sooner_of(uncallable(scope, ident), inside)
+            sooner_of(uncallable(scope, ident, arguments.as_slice().len()), inside)
         }
         ExprKind::Paren(a) => first_misuse(scope, a.get()),
         ExprKind::Unary(_, a) => first_misuse(scope, a.get()),
@@ -46,8 +47,8 @@ pub fn first_misuse(scope: &Scope<'_, '_>, e: &Expr) -> Option<u32>
 
 /// The same of several expressions.
 #[cycle(misuse)]
-pub fn first_misuse_of(scope: &Scope<'_, '_>, exprs: &[Expr]) -> Option<u32>
-    ensures { result ≡ least (flat_map (misuses scope.now) exprs.now) }
+pub fn first_misuse_of(scope: &Scope<'_, '_, '_>, exprs: &[Expr]) -> Option<u32>
+    ensures { result ≡ least (flat_map (misuses (seen scope.now)) exprs.now) }
 {
     let mut first = None;
     for e in exprs {

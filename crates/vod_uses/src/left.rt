@@ -1,6 +1,7 @@
 //! Names on left sides.
 ghost use Rattle.std.specs.Prelude.{◌≡◌, flat_map};
 ghost use Rattle.vod_places.specs.Places.{least};
+ghost use Rattle.vod_uses.specs.Visible.{seen};
 ghost use Rattle.vod_uses.specs.Uses.{left_misuses};
 
 use crate::expr::first_misuse;
@@ -10,8 +11,8 @@ use vod_tree::{Lval, LvalKind};
 
 /// The least place of a name in a left side that isn't declared as what it is used for.
 #[cycle(left)]
-pub fn first_left_misuse(scope: &Scope<'_, '_>, left: &Lval) -> Option<u32>
-    ensures { result ≡ least (left_misuses scope.now left.now) }
+pub fn first_left_misuse(scope: &Scope<'_, '_, '_>, left: &Lval) -> Option<u32>
+    ensures { result ≡ least (left_misuses (seen scope.now) left.now) }
 {
     match &left.kind {
         LvalKind::Name(ident) => misused(scope, Usage::Target, ident),
@@ -29,8 +30,8 @@ pub fn first_left_misuse(scope: &Scope<'_, '_>, left: &Lval) -> Option<u32>
 
 /// The same of several left sides.
 #[cycle(left)]
-pub fn first_left_misuse_of(scope: &Scope<'_, '_>, lefts: &[Lval]) -> Option<u32>
-    ensures { result ≡ least (flat_map (left_misuses scope.now) lefts.now) }
+pub fn first_left_misuse_of(scope: &Scope<'_, '_, '_>, lefts: &[Lval]) -> Option<u32>
+    ensures { result ≡ least (flat_map (left_misuses (seen scope.now)) lefts.now) }
 {
     let mut first = None;
     for left in lefts {

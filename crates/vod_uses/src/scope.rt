@@ -2,8 +2,10 @@
 ghost use Rattle.std.specs.Prelude.{◌≡◌};
 ghost use Rattle.vod_places.specs.Places.{least};
 ghost use Rattle.vod_names.specs.Entries.{has_name};
-ghost use Rattle.vod_uses.specs.Uses.{is_signal, is_constant, is_ram, fits, stands_before, misused, is_function_kind, is_function, uncallable};
+ghost use Rattle.vod_uses.specs.Uses.{is_signal, is_constant, is_ram, fits, stands_before, misused, is_function_kind, is_function, hides, takes, uncallable};
+ghost use Rattle.vod_uses.specs.Visible.{seen, before, within};
 
+use crate::functions::Functions;
 use vod_names::{Declaration, Kind, Names};
 use vod_places::place_where;
 use vod_tree::Ident;
@@ -11,10 +13,41 @@ use vod_tree::Ident;
 /// The names that a use can mean: an inner list before the names of the module, and of these the ones that are declared before
 /// a place. An inner name is a variable of a function or the index of a loop, and stands for a vector.
 #[derive(Clone, Copy)]
-pub struct Scope<'a, 's> {
-    pub inner: &'a Names<'s>,
+pub struct Scope<'i, 'a, 's> {
+    pub inner: &'i Names<'s>,
     pub outer: &'a Names<'s>,
+    /// The registers of the module.
+    pub registers: &'a Names<'s>,
+    pub functions: &'a Functions<'s>,
     pub limit: u32,
+}
+
+impl<'i, 'a, 's> Scope<'i, 'a, 's> {
+    /// The same names before another place.
+    pub fn before(&self, limit: u32) -> Scope<'i, 'a, 's>
+        ensures { seen result ≡ before (seen self.now) limit }
+    {
+        Scope {
+            inner: self.inner,
+            outer: self.outer,
+            registers: self.registers,
+            functions: self.functions,
+            limit,
+        }
+    }
+
+    /// The same names behind other inner ones.
+    pub fn within<'j>(&self, inner: &'j Names<'s>) -> Scope<'j, 'a, 's>
+        ensures { seen result ≡ within (seen self.now) inner.now }
+    {
+        Scope {
+            inner,
+            outer: self.outer,
+            registers: self.registers,
+            functions: self.functions,
+            limit: self.limit,
+        }
+    }
 }
 
 /// What a name is used as.
@@ -28,11 +61,13 @@ pub enum Usage {
     Target,
     /// It is written at an index.
     IndexedTarget,
+    /// Its edges are waited for.
+    Event,
 }
 
 /// The place of a name, where it isn't declared as what it is used for.
-pub fn misused(scope: &Scope<'_, '_>, usage: Usage, ident: &Ident) -> Option<u32>
-    ensures { result ≡ least (misused scope.now usage ident.now) }
+pub fn misused(scope: &Scope<'_, '_, '_>, usage: Usage, ident: &Ident) -> Option<u32>
+    ensures { result ≡ least (misused (seen scope.now) usage ident.now) }
 {
     let name = ident.name.as_slice();
     let inner = scope.inner.first_of(name).is_some();
@@ -40,16 +75,34 @@ pub fn misused(scope: &Scope<'_, '_>, usage: Usage, ident: &Ident) -> Option<u32
     place_where(!fine, ident.place)
 }
 
-/// The place of a name that is called, where it means no function of the module.
-pub(crate) fn uncallable(scope: &Scope<'_, '_>, ident: &Ident) -> Option<u32>
-    ensures { result ≡ least (uncallable scope.now ident.now) }
+/// The place of a name that is called with so many arguments, where it means no function of the module with so many inputs.
+pub(crate) fn uncallable(scope: &Scope<'_, '_, '_>, ident: &Ident, count: usize) -> Option<u32>
+    ensures { result ≡ least (uncallable (seen scope.now) ident.now count) }
 {
     let name = ident.name.as_slice();
-    let hidden = scope.inner.first_of(name).is_some();
-    place_where(
-        hidden || !is_function(scope.outer.first_of(name)),
-        ident.place,
-    )
+    let hidden = hides(scope.inner.first_of(name));
+    let function = is_function(scope.outer.first_of(name));
+    let fits = takes(scope.functions.inputs_of(name), count);
+    place_where(hidden || !function || !fits, ident.place)
+}
+
+// Whether an inner declaration hides a function.
+fn hides(inner: Option<Declaration>) -> bool
+    ensures { result ≡ hides inner }
+{
+    match inner {
+        None => false,
+        Some(inner) => !is_function_kind(inner.kind),
+    }
+}
+
+fn takes(inputs: Option<usize>, count: usize) -> bool
+    ensures { result ≡ takes inputs count }
+{
+    match inputs {
+        None => false,
+        Some(inputs) => inputs == count,
+    }
 }
 
 // Whether a declaration stands before a place and is of a kind that fits.
@@ -68,7 +121,7 @@ fn fits(usage: Usage, kind: Kind) -> bool
     match usage {
         Usage::Value => is_signal(kind) || is_constant(kind),
         Usage::Indexed => is_signal(kind) || is_constant(kind) || is_ram(kind),
-        Usage::Target => is_signal(kind),
+        Usage::Target | Usage::Event => is_signal(kind),
         Usage::IndexedTarget => is_signal(kind) || is_ram(kind),
     }
 }
@@ -91,7 +144,7 @@ fn is_constant(kind: Kind) -> bool
     }
 }
 
-fn is_ram(kind: Kind) -> bool
+pub(crate) fn is_ram(kind: Kind) -> bool
     ensures { result ≡ is_ram kind }
 {
     match kind {

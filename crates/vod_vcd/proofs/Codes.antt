@@ -1,5 +1,5 @@
 -- The code of a signal, digit by digit.
-use Rattle.std.proofs.Common.{◌≡◌, ℕ, zero, suc, ◌+◌, ◌*◌, ◌/◌, ◌%◌, ◌^◌, ◌<◌, ◌≤◌, List, [], ◌∷◌, length, nat_lt, true, false, refl, ap, sym, ◌∙◌, arith, inl, inr, ◌++◌, append_assoc, length-append}
+use Rattle.std.proofs.Common.{◌≡◌, ℕ, zero, suc, ◌+◌, ◌*◌, ◌/◌, ◌%◌, ◌<◌, ◌≤◌, List, [], ◌∷◌, length, nat_lt, true, false, refl, ap, sym, ◌∙◌, arith, inl, inr, ◌++◌, append_assoc, length-append}
 use Rattle.std.proofs.lemmas.Bool.{cases_lt}
 use Rattle.vod_vcd.specs.Text.{code_of, code}
 

@@ -1,5 +1,5 @@
 -- The bits of a value by their places in its two words.
-use Rattle.std.specs.Prelude.{ℕ, zero, suc, ◌==◌, ◌&&◌, not, Bool, true, false, nat_le, if◌then◌else◌}
+use Rattle.std.specs.Prelude.{ℕ, zero, suc, ◌==◌, ◌&&◌, not, Bool, false, nat_le, if◌then◌else◌}
 use Rattle.std.specs.Int.{bit_at}
 use Rattle.vod_bits.specs.Bit.{Bit}
 use Rattle.vod_bits.specs.Value.{digit_bit}

@@ -1,5 +1,5 @@
 -- The digits of a value (IEEE 1364-2005, 18.2.1 and Table 18-2).
-use Rattle.std.specs.Prelude.{ℕ, zero, suc, Bool, true, false, List, [], ◌∷◌, map, if◌then◌else◌}
+use Rattle.std.specs.Prelude.{ℕ, Bool, true, false, List, [], ◌∷◌, map, if◌then◌else◌}
 use Rattle.vod_bits.specs.Bit.{Bit, B0, B1, BX, BZ, is_known}
 
 -- the digit of a bit: 0, 1, x or z

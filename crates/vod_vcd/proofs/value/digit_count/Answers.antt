@@ -1,5 +1,5 @@
 -- A bit that falls isn't written.
-use Rattle.std.proofs.Common.{◌≡◌, Bool, true, false, sym, ap, ◌∙◌, arith, map, ◌≤◌, ◌-◌}
+use Rattle.std.proofs.Common.{◌≡◌, true, false, sym, ap, ◌∙◌, arith, map}
 use Rattle.vod_four.specs.Fields.{four-places}
 use Rattle.vod_vcd.specs.Values.{digit, written_bits}
 use Rattle.vod_vcd.specs.Places.{bit_there, upper_falls}

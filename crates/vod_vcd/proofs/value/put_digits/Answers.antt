@@ -1,5 +1,5 @@
 -- One digit more, until none is left.
-use Rattle.std.proofs.Common.{◌≡◌, ◌<◌, arith}
+use Rattle.std.proofs.Common.{arith}
 use Rattle.vod_vcd.specs.Places.{bit_there}
 use Rattle.vod_vcd.proofs.Digits.{digits-next, digits-done}
 use Rattle.vod_vcd.proofs.value.put_digits.Goals as goal

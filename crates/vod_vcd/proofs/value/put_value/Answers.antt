@@ -1,5 +1,5 @@
 -- A value of one bit is its digit, one of more stands behind `b` and before a space.
-use Rattle.std.proofs.Common.{◌≡◌, ◌++◌, length, sym, ap, ◌∙◌, arith}
+use Rattle.std.proofs.Common.{◌≡◌, ◌++◌, length, sym, ap, ◌∙◌}
 use Rattle.vod_four.specs.Fields.{four_width}
 use Rattle.vod_vcd.specs.Values.{digits}
 use Rattle.vod_vcd.proofs.Digits.{value_text-one, value_text-more}

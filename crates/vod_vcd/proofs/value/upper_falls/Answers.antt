@@ -1,5 +1,5 @@
 -- The digits of the upper two bits tell whether the upper one falls.
-use Rattle.std.proofs.Common.{◌≡◌, ◌≤◌, ◌∙◌, sym, arith}
+use Rattle.std.proofs.Common.{◌≤◌, ◌∙◌, sym, arith}
 use Rattle.vod_vcd.specs.Places.{bit_there}
 use Rattle.vod_vcd.proofs.Digits.{upper_falls-more}
 use Rattle.vod_vcd.proofs.value.upper_falls.Goals as goal

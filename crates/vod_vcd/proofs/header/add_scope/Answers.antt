@@ -1,0 +1,8 @@
+-- The pieces in turn are the line.
+use Rattle.std.proofs.Common.{append_assoc}
+use Rattle.vod_vcd.proofs.header.add_scope.Goals as goal
+
+pub returns : goal.returns
+returns c =
+    rw (c.in_ok-extend_from_slice-3.ensures.items, c.in_ok-extend_from_slice-2.ensures.items, c.in_ok-extend_from_slice.ensures.items)
+    (simp append_assoc)

@@ -1,0 +1,9 @@
+-- The feeds so far, continued by those of the signals that are left, are the whole.
+use Rattle.std.proofs.Common.{◌≡◌, ◌++◌, drop}
+use Rattle.std.specs.List.{enumerate_from}
+use Rattle.vod_vcd.specs.Scopes.{signal_feeds}
+use Rattle.vod_vcd.proofs.scopes.signal_feeds.Given as goal
+
+abbrev pub invariant-loop-number : goal.invariant-loop-number
+invariant-loop-number l =
+    l.feeds.items ++ signal_feeds (enumerate_from l.number (drop l.number l.signals)) ≡ signal_feeds (enumerate_from 0 l.signals)
