@@ -24,6 +24,7 @@ use vod_four::Four;
 enum Step {
     Start,
     Word(bool),
+    PastEnd,
     Clock(bool),
     Register(bool),
     Net(bool),
@@ -31,9 +32,10 @@ enum Step {
     Wait,
 }
 
-const STEPS: [(&str, Step); 12] = [
+const STEPS: [(&str, Step); 13] = [
     ("start", Step::Start),
     ("word 1", Step::Word(true)),
+    ("word past the end 0", Step::PastEnd),
     ("settle", Step::Settle),
     ("register 0", Step::Register(false)),
     ("settle", Step::Settle),
@@ -76,6 +78,7 @@ fn take(cells: &mut Cells<'_>, design: &Design, step: Step)
     match step {
         Step::Start => {}
         Step::Word(bit) => cells.put_word(0, 0, truth(bit)),
+        Step::PastEnd => cells.put_word(0, 1, truth(false)),
         Step::Clock(bit) => cells.put_bits(0, 0, one_bit(bit)),
         Step::Register(bit) => cells.put_bits(2, 0, one_bit(bit)),
         Step::Net(bit) => cells.put_places(driver(design).target.as_slice(), truth(bit)),

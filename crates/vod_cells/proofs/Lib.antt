@@ -7,3 +7,4 @@ pub mod Bitwise
 pub mod Opening
 pub mod Events
 pub mod Bringing
+pub mod Placed

@@ -177,17 +177,14 @@ no_edge : (store : Store) (m p : ℕ) (word : List Bit) (b : Block) → starts s
 no_edge store m p word b = no_reset store m p word b.reset
 
 -- a word was put where it was replaced and its readers were woken
-pub word_put : (d : Netlist) (m p : ℕ) (word old : List Bit) (words list held new : List (List Bit)) (st now : Stored) (wake : List Bool) (changed : Bool) → now ≡ st → IsStoredOf d st → m < length d.memories → p < length (list_at st.store.memories m) →
-    words ≡ get_or now.store.memories m words → list ≡ words → old ≡ get_or list p old → held ≡ get_or now.store.memories m held → new ≡ set held p word →
-    changed ≡ not (same_bits old word) → wake ≡ raised_if changed (λ (a : Driver). list_any (is_word_read m p) (reads a.value)) d.drivers now.wake →
+pub word_put : (d : Netlist) (m p : ℕ) (word : List Bit) (words held new : List (List Bit)) (st now : Stored) (wake : List Bool) (changed : Bool) → now ≡ st → IsStoredOf d st → m < length d.memories → words ≡ get_or now.store.memories m words → held ≡ get_or now.store.memories m held → new ≡ set held p word →
+    changed ≡ not (same_bits (list_at words p) word) → wake ≡ raised_if changed (λ (a : Driver). list_any (is_word_read m p) (reads a.value)) d.drivers now.wake →
     record { store = record { signals = now.store.signals; memories = set now.store.memories m new }; wake = wake; started = now.started } ≡ put_in d (ToWord m p word) st
-word_put d m p word old words list held new st now wake changed same shaped within inside at listed is_old holds is_new is_changed is_wake =
+word_put d m p word words held new st now wake changed same shaped within at holds is_new is_changed is_wake =
     let there : m < length now.store.memories = rw same (omega (arith, within, memories_length d st shaped)) in
     let stored : words ≡ list_at now.store.memories m = get_or_read now.store.memories m words there at [] in
-    let here : p < length list = rw (listed, stored, same) inside in
-    let first : old ≡ word_at now.store m p = get_or_read list p old here is_old [] ∙ ap (λ ws. list_at ws p) (listed ∙ stored) in
     let values : new ≡ set (list_at now.store.memories m) p word = is_new ∙ ap (λ ws. set ws p word) (get_or_read now.store.memories m held there holds []) in
-    let change : changed ≡ not (same_bits (word_at now.store m p) word) = is_changed ∙ ap (λ o. not (same_bits o word)) first in
+    let change : changed ≡ not (same_bits (word_at now.store m p) word) = is_changed ∙ ap (λ ws. not (same_bits (list_at ws p) word)) stored in
     let roused : wake ≡ raised_if (changes now.store (ToWord m p word)) (feeds_driver (ToWord m p word)) d.drivers now.wake = is_wake ∙ ap (λ t. raised_if t (λ (a : Driver). list_any (is_word_read m p) (reads a.value)) d.drivers now.wake) change in
     let begun : now.started ≡ raised (starts now.store (ToWord m p word)) d.blocks now.started = sym (raised-none (starts now.store (ToWord m p word)) d.blocks now.started (no_edge now.store m p word)) in
     let whole : record { store = record { signals = now.store.signals; memories = set now.store.memories m new }; wake = wake; started = now.started } ≡ put_in d (ToWord m p word) now = stored_is now.store.signals (set now.store.memories m new) (set now.store.memories m (set (list_at now.store.memories m) p word)) wake _ now.started _ (ap (set now.store.memories m) values) roused begun in
@@ -211,11 +208,3 @@ words_there (words ∷ lists) (r ∷ ms) (suc m) p same h =
 
 pub words_stored : (d : Netlist) (s t : Stored) (m p : ℕ) → t ≡ s → IsStoredOf d s → p < word_count d m → (m < length t.store.memories) × (p < length (list_at t.store.memories m))
 words_stored d s t m p is h within = rw is (words_there s.store.memories d.memories m p h.memories within)
-
-memories_there : (ms : List Ram) (m p : ℕ) → p < or_0 (option_map (λ (r : Ram). r.words) (slice_get ms m)) → m < length ms
-memories_there [] m p h = absurd (omega arith)
-memories_there (r ∷ ms) zero p h = omega arith
-memories_there (r ∷ ms) (suc m) p h = let more = memories_there ms m p h in omega (arith, more)
-
-pub memory_there : (d : Netlist) (m p : ℕ) → p < word_count d m → m < length d.memories
-memory_there d m p h = memories_there d.memories m p h

@@ -1,7 +1,10 @@
 -- What is stored, with the drivers that await evaluation and the blocks that an edge started; and the writes that change it.
-use Rattle.std.specs.Prelude.{◌≡◌, Bool, List, [], ◌∷◌, length, map, replicate, true, false}
+use Rattle.std.specs.Prelude.{◌≡◌, ℕ, Bool, List, [], ◌∷◌, length, map, replicate, true, false, ◌+◌, ◌<◌, ◌≤◌, ◌^◌, Option, None, Some}
 use Rattle.vod_design.specs.declared.parts.Block.{Block}
+use Rattle.vod_design.specs.declared.sized.Variable.TheVariants.{Signal, Local}
 use Rattle.vod_design.specs.declared.statement.Statement.{Statement}
+use Rattle.vod_design.specs.declared.statement.Target.{Target}
+use Rattle.vod_design.specs.declared.statement.Target.TheVariants.{Bits, Word}
 use Rattle.vod_design.specs.Netlist.{Netlist}
 use Rattle.vod_slot.specs.Store.{Store, Write, written, changes, feeds_driver}
 use Rattle.vod_slot.specs.State.{State, start_of}
@@ -29,6 +32,13 @@ pub record IsStoredOf (d : Netlist) (s : Stored) : Type 0 where
   pub memories : map length s.store.memories ≡ map (λ m. m.words) d.memories
   pub wake : length s.wake ≡ length d.drivers
   pub started : length s.started ≡ length d.blocks
+
+-- a resolved part of so many bits writes what there is: its bits have places, though maybe none in the signal or the memory
+abbrev pub TargetIsThere : Netlist → Option Target → ℕ → Type 0
+TargetIsThere d None width = Unit
+TargetIsThere d (Some (Bits (Signal n) low)) width = (n < length d.signals) × (low + width ≤ 2 ^ 64)
+TargetIsThere d (Some (Bits (Local n) low)) width = Unit
+TargetIsThere d (Some (Word memory place)) width = memory < length d.memories
 
 -- One write is made. Where it changes something, the drivers that can read it await evaluation; where it is an edge, it has come for
 -- each block that names it.

@@ -3,14 +3,15 @@ ghost use Rattle.std.specs.Prelude.{◌≡◌, ◌+◌, ◌<◌, ◌≤◌, ◌^
 ghost use Rattle.vod_bits.specs.Bit.{BX};
 ghost use Rattle.vod_bits.specs.Value.{resize_bits};
 ghost use Rattle.vod_design.specs.declared.statement.Place.{Place};
+ghost use Rattle.vod_design.specs.Flat.{InitialFits};
 ghost use Rattle.vod_design.specs.Netlist.{word_count};
 ghost use Rattle.vod_design.specs.Run.{eval};
 ghost use Rattle.vod_design.specs.Values.{value_at};
 ghost use Rattle.vod_eval.specs.Room.{room_of};
 ghost use Rattle.vod_slot.specs.State.{flag_at};
-ghost use Rattle.vod_slot.specs.Step.{pending};
+ghost use Rattle.vod_slot.specs.Step.{initial_written, pending, target_written};
 ghost use Rattle.vod_slot.specs.Store.{brought, bits_at, values_in, ToWord, bits_written, places_written, word_at};
-ghost use Rattle.vod_cells.specs.Stored.{put_in, put_all_in, stored_first};
+ghost use Rattle.vod_cells.specs.Stored.{put_in, put_all_in, stored_first, TargetIsThere};
 
 use crate::brought::{expression_value, pending_value};
 use crate::first::tables_of;
@@ -18,8 +19,8 @@ use crate::listeners::Listeners;
 use crate::tables::Tables;
 use std::alloc::{AllocError, Global};
 use std::marker::Model;
-use vod_bits::Word;
-use vod_design::{Design, Driver, Place, SizedExpr};
+use vod_bits::{Bits, Word};
+use vod_design::{Design, Driver, InitialTarget, Place, SizedExpr, Target, Variable};
 use vod_four::Four;
 
 /// What a simulation stores of a design, which contracts see as the design and its values and flags.
@@ -167,12 +168,38 @@ impl<'d> Cells<'d> {
             .put_places(self.design, &self.listeners, places, value);
     }
 
-    /// A word of a memory, by its place from the least index up, takes a value: where that changes it, the drivers that can read it await evaluation.
+    /// A word of a memory, by its place from the least index up, takes a value: where that isn't what it had, the drivers that can read
+    /// it await evaluation.
     pub fn put_word(&mut self, memory: u32, place: Word, word: Four)
-        requires { place < word_count self.old.design memory }
+        requires { memory < length self.old.design.memories }
         ensures { self.new ≡ record self.old { stored = put_in self.old.design (ToWord memory place word) self.old.stored } }
     {
         self.tables
             .put_word(self.design, &self.listeners, memory, place, word);
+    }
+
+    /// An assignment of an initial item is made (6.2.1, 9.9.1).
+    pub fn assign(&mut self, target: InitialTarget, value: Bits)
+        requires { InitialFits self.old.design (length value) target }
+        ensures { self.new ≡ record self.old { stored = put_all_in self.old.design (initial_written target value) self.old.stored } }
+    {
+        match target {
+            InitialTarget::Register(n) => self.put_bits(n, 0, Four::of(value)),
+            InitialTarget::Word(memory, place) => {
+                self.put_word(memory, Word::from(place), Four::of(value));
+            }
+        }
+    }
+
+    /// A part of an activated update is written; a part at an index with x or z is none, and writes nothing (9.2.2).
+    pub fn put_target(&mut self, target: Option<Target>, value: Four)
+        requires { TargetIsThere self.old.design target (length value) }
+        ensures { self.new ≡ record self.old { stored = put_all_in self.old.design (target_written target value) self.old.stored } }
+    {
+        match target {
+            None | Some(Target::Bits(Variable::Local(_), _)) => {}
+            Some(Target::Bits(Variable::Signal(n), low)) => self.put_bits(n, low, value),
+            Some(Target::Word(memory, place)) => self.put_word(memory, place, value),
+        }
     }
 }

@@ -11,6 +11,7 @@ mod laws;
 mod listeners;
 mod reached;
 mod tables;
+mod words;
 
 pub use crate::cells::Cells;
 pub use crate::laws::writes_are_events;

@@ -14,6 +14,7 @@ use crate::bits::{bit_in, bit_or_zero, differ, replaced};
 use crate::flags::Flags;
 use crate::listeners::Listeners;
 use crate::reached::{start_blocks, wake_for_bit, wake_for_word};
+use crate::words::{changes_word, set_word};
 use sqlite_items::Items;
 use std::marker::Model;
 use vod_bits::Word;
@@ -98,19 +99,11 @@ impl Tables {
         requires shaped { IsStoredOf design.now.netlist self.old }
         requires listed { AreListeners design.now.netlist listeners.now }
         requires within { memory < length design.now.netlist.memories }
-        requires inside { place < length (list_at self.old.store.memories memory) }
         ensures { self.new ≡ put_in design.now.netlist (ToWord memory place word) self.old }
     {
-        let old = self.memories[memory as usize].as_slice()[place as usize];
-        self.memories[memory as usize].set(place as usize, word);
-        wake_memory_readers(
-            &mut self.wake,
-            design,
-            listeners,
-            memory,
-            place,
-            differ(old, word),
-        );
+        let changed = changes_word(&self.memories[memory as usize], place, word);
+        set_word(&mut self.memories[memory as usize], place, word);
+        wake_memory_readers(&mut self.wake, design, listeners, memory, place, changed);
     }
 
     /// Bits of a signal from a place up take a value, one after the other from the upper one.
