@@ -10,7 +10,7 @@ use vod_width::{Declared, Decls, WidthFault};
 pub fn show_module(
     alloc: Global,
     page: &mut Page,
-    given: Given,
+    given: &Given,
     module: &Module,
 ) -> Result<(), AllocError> {
     let mut decls: Decls<'_> = Decls::new(alloc);
@@ -18,7 +18,7 @@ pub fn show_module(
         match &item.kind {
             ItemKind::Parameter(d) => show_parameters(alloc, page, given, d, &mut decls)?,
             ItemKind::Localparam(d) => {
-                show_parameters(alloc, page, Given::Default, d, &mut decls)?;
+                show_parameters(alloc, page, &Given::Default, d, &mut decls)?;
             }
             ItemKind::Reg(d) => show_registers(alloc, page, d, &decls),
             _ => page.word("other"),
@@ -30,12 +30,12 @@ pub fn show_module(
 fn show_parameters<'s>(
     alloc: Global,
     page: &mut Page,
-    given: Given,
+    given: &Given,
     d: &'s ParameterDeclaration,
     decls: &mut Decls<'s>,
 ) -> Result<(), AllocError> {
     for setting in d.settings.as_slice() {
-        let formed = parameter(alloc, &d.kind, &setting.value, given, decls)?;
+        let formed = parameter(alloc, &d.kind, &setting.value, *given, decls)?;
         page.put(" ");
         page.put_bytes(setting.name.name.as_slice());
         show_declared(page, &formed.declared);

@@ -37,7 +37,7 @@ fn answer(alloc: Global, page: &mut Page, row: &str) -> Result<(), AllocError> {
         page.word("longer than 1,048,576 bytes");
         return Ok(());
     }
-    show_source(alloc, page, given, source.as_slice())
+    show_source(alloc, page, &given, source.as_slice())
 }
 
 /// What a word sets parameters to: `own` nothing, `open` a value that couldn't be formed, `u:200` and `s:200` that number in 8 bits.
@@ -63,7 +63,7 @@ fn given_of(word: &str) -> Option<Given> {
 fn show_source(
     alloc: Global,
     page: &mut Page,
-    given: Given,
+    given: &Given,
     source: &[u8],
 ) -> Result<(), AllocError>
     requires { length source.now ≤ 1048576 }
