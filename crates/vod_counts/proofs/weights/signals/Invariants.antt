@@ -1,0 +1,6 @@
+use Rattle.std.proofs.Common.{◌≡◌, take}
+use Rattle.vod_counts.specs.Limits.{signal_count, each_module}
+use Rattle.vod_counts.proofs.weights.signals.Given as goal
+
+abbrev pub invariant-loop-part : goal.invariant-loop-part
+invariant-loop-part l = l.counts.items ≡ each_module signal_count (take l.part-index l.parts)

@@ -1,0 +1,4 @@
+pub mod Edges
+pub mod Counts
+pub mod Limits
+pub mod Totals
