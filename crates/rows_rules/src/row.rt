@@ -4,6 +4,7 @@ ghost use Rattle.std.specs.Prelude.{◌≤◌, length};
 use rows_text::{Page, unescaped};
 use std::alloc::{AllocError, Global};
 use vod_connections::first_name_fault;
+use vod_counts::{Limit, first_limit};
 use vod_declared::first_declaration_fault;
 use vod_modules::{Modules, ModulesFault, modules_of};
 use vod_names::Memory;
@@ -19,6 +20,7 @@ const MOST_BYTES: usize = 1_048_576;
 enum Question {
     Modules,
     Declared,
+    Limits,
     Names,
 }
 
@@ -26,6 +28,7 @@ fn question_of(word: &str) -> Option<Question> {
     match word {
         "modules" => Some(Question::Modules),
         "declared" => Some(Question::Declared),
+        "limits" => Some(Question::Limits),
         "names" => Some(Question::Names),
         _ => None,
     }
@@ -75,6 +78,7 @@ fn show(alloc: Global, page: &mut Page, question: Question, tree: &Tree) {
         Question::Modules => show_modules(page, tree, &modules_of(alloc, tree)),
         Question::Declared => show_fault(page, &first_declaration_fault(alloc, tree)),
         Question::Names => show_fault(page, &first_name_fault(alloc, tree)),
+        Question::Limits => show_limits(alloc, page, tree),
     }
 }
 
@@ -92,6 +96,26 @@ fn show_modules(page: &mut Page, tree: &Tree, modules: &Result<Modules<'_>, Modu
         Err(ModulesFault::At(place)) => page.placed("At", u64::from(*place)),
         Err(ModulesFault::Memory) => page.word("there was no memory"),
     }
+}
+
+fn show_limits(alloc: Global, page: &mut Page, tree: &Tree) {
+    match modules_of(alloc, tree) {
+        Ok(modules) => show_limit(page, first_limit(alloc, tree, &modules)),
+        Err(ModulesFault::At(place)) => page.placed("At", u64::from(place)),
+        Err(ModulesFault::Memory) => page.word("there was no memory"),
+    }
+}
+
+fn show_limit(page: &mut Page, limit: Result<Option<Limit>, Memory>) {
+    page.word(match limit {
+        Ok(Some(Limit::Modules)) => "limit Modules",
+        Ok(Some(Limit::Instances)) => "limit Instances",
+        Ok(Some(Limit::Signals)) => "limit Signals",
+        Ok(Some(Limit::Inputs)) => "limit Inputs",
+        Ok(Some(Limit::Tokens)) => "limit Tokens",
+        Ok(None) => "fine",
+        Err(_) => "there was no memory",
+    });
 }
 
 /// The name of the module at a place.
