@@ -1,5 +1,5 @@
 -- The digits of a value, by the places of its bits.
-use Rattle.std.proofs.Common.{◌≡◌, ℕ, zero, suc, ◌+◌, ◌-◌, ◌/◌, ◌^◌, ◌==◌, bit_and, ◌<◌, ◌≤◌, List, [], ◌∷◌, ◌++◌, length, map, true, false, refl, sym, ◌∙◌, arith, append_assoc, append-nil}
+use Rattle.std.proofs.Common.{◌≡◌, ℕ, zero, suc, ◌+◌, ◌*◌, ◌-◌, ◌/◌, ◌^◌, ◌==◌, bit_and, ◌<◌, ◌≤◌, List, [], ◌∷◌, ◌++◌, length, map, true, false, refl, sym, ◌∙◌, arith, append_assoc, append-nil}
 use Rattle.std.specs.Int.{bit_at}
 use Rattle.std.proofs.lemmas.Nat.Bits.{bit_at-lt, shr_and_one}
 use Rattle.vod_bits.specs.Bit.{Bit, B0, B1, BX, BZ}
@@ -71,13 +71,15 @@ digits-next text whole at (suc n) some so_far =
     let one : suc n - 1 ≡ n = omega arith in
     rw one (append_assoc text (digit (at n) ∷ []) (map digit (bits_from at n)) ∙ so_far)
 
--- the digit of a bit that is known
-pub digit-known : (ones unks place : ℕ) → (bit_and (unks / 2 ^ place) 1 ≡ 1 → ⊥) → 48 + bit_and (ones / 2 ^ place) 1 ≡ digit (bit_there ones unks place)
-digit-known ones unks place =
+-- the digit of a bit, from its two binary digits
+pub digit-at : (ones unks place : ℕ) →
+    48 + bit_and (ones / 2 ^ place) 1 + bit_and (unks / 2 ^ place) 1 * (72 + bit_and (ones / 2 ^ place) 1) ≡ digit (bit_there ones unks place)
+digit-at ones unks place =
     rw (shr_and_one ones place, shr_and_one unks place)
-    (digit_cases (λ u. (u ≡ 1 → ⊥) → 48 + bit_at ones place ≡ digit (four_bit (digit_bit (bit_at ones place)) (digit_bit u)))
-    (λ _. digit_cases (λ o. 48 + o ≡ digit (four_bit (digit_bit o) B0)) refl refl (bit_at ones place) (bit_at-lt ones place))
-    (λ h. absurd (h refl)) (bit_at unks place) (bit_at-lt unks place))
+    (digit_cases (λ u. 48 + bit_at ones place + u * (72 + bit_at ones place) ≡ digit (four_bit (digit_bit (bit_at ones place)) (digit_bit u)))
+    (digit_cases (λ o. 48 + o + 0 * (72 + o) ≡ digit (four_bit (digit_bit o) B0)) refl refl (bit_at ones place) (bit_at-lt ones place))
+    (digit_cases (λ o. 48 + o + 1 * (72 + o) ≡ digit (four_bit (digit_bit o) B1)) refl refl (bit_at ones place) (bit_at-lt ones place))
+    (bit_at unks place) (bit_at-lt unks place))
 
 -- no digit is left
 pub digits-done : (text whole : List ℕ) (at : ℕ → Bit) (n : ℕ) → n ≡ 0 → text ++ map digit (bits_from at n) ≡ whole → text ≡ whole

@@ -41,11 +41,8 @@ fn digit_at(ones: Word, unks: Word, place: u8) -> u8
     ensures { result ≡ digit (bit_there ones unks place) }
 {
     let one = (ones >> place & 1) as u8;
-    if unks >> place & 1 == 1 {
-        b'x' + 2 * one
-    } else {
-        b'0' + one
-    }
+    let unk = (unks >> place & 1) as u8;
+    b'0' + one + unk * (b'x' - b'0' + one)
 }
 
 // Whether a leading digit is dropped before the next one: 0 before 0 or 1, x before x, z before z.
