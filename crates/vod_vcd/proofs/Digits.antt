@@ -1,8 +1,8 @@
 -- The digits of a value, by the places of its bits.
-use Rattle.std.proofs.Common.{◌≡◌, ℕ, zero, suc, ◌+◌, ◌*◌, ◌-◌, ◌/◌, ◌^◌, ◌==◌, bit_and, ◌<◌, ◌≤◌, List, [], ◌∷◌, ◌++◌, length, map, true, false, refl, sym, ◌∙◌, arith, append_assoc, append-nil}
+use Rattle.std.proofs.Common.{◌≡◌, ℕ, zero, suc, ◌+◌, ◌*◌, ◌-◌, ◌/◌, ◌^◌, ◌==◌, bit_and, ◌<◌, ◌≤◌, List, [], ◌∷◌, ◌++◌, length, map, true, false, refl, sym, ap, ◌∙◌, arith, append_assoc, append-nil}
 use Rattle.std.specs.Int.{bit_at}
-use Rattle.std.proofs.lemmas.Nat.Bits.{bit_at-lt, shr_and_one}
-use Rattle.vod_bits.specs.Bit.{Bit, B0, B1, BX, BZ}
+use Rattle.std.proofs.lemmas.Nat.Bits.{bit_at-zero, bit_at-lt, bit_at_above, shr_and_one}
+use Rattle.vod_bits.specs.Bit.{Bit, B0, B1, BX, BZ, is_known}
 use Rattle.vod_bits.specs.Value.{bits_from, digit_bit}
 use Rattle.vod_bits.specs.Fields.{digit_cases}
 use Rattle.vod_four.specs.Four.{four_bit}
@@ -56,6 +56,34 @@ unfolding bits_from written_bits
 written-stays at zero stays = refl
 written-stays at (suc zero) stays = refl
 written-stays at (suc (suc n)) stays = rw stays refl
+
+-- zeros above the lower m bits, at least one, of a known value are not written
+pub written-zeros : (at : ℕ → Bit) (m d : ℕ) → ((i : ℕ) → is_known (at i) ≡ true) → ((i : ℕ) → m ≤ i → at i ≡ B0) → 0 < m →
+    written_bits (bits_from at m) ≡ written_bits (bits_from at (d + m))
+written-zeros at m zero known zeros some =
+    let same : 0 + m ≡ m = omega arith in
+    rw same refl
+written-zeros at m (suc d) known zeros some =
+    let more : 2 ≤ suc d + m = omega (arith, some) in
+    let less : suc d + m - 1 ≡ d + m = omega arith in
+    let upper : at (suc d + m - 1) ≡ B0 = zeros (suc d + m - 1) (omega arith) in
+    let dropped : is_dropped (at (suc d + m - 1)) (at (suc d + m - 2)) ≡ true = rw upper (known (suc d + m - 2)) in
+    let falls : upper_falls at (suc d + m) ≡ true =
+    upper_falls-more at (suc d + m) more ∙ falls_before-digits (at (suc d + m - 1)) (at (suc d + m - 2)) ∙ dropped in
+    written-zeros at m d known zeros some ∙ sym (written-falls at (suc d + m) falls ∙ ap (λ k. written_bits (bits_from at k)) less)
+
+-- a known value's zeros above its number are not written
+pub written-known : (ones used r d : ℕ) → ones < 2 ^ used → (0 < d → 0 < r) → (0 < d → used ≤ r) →
+    written_bits (bits_from (bit_there ones 0) r) ≡ written_bits (bits_from (bit_there ones 0) (d + r))
+written-known ones used r zero within some above =
+    let same : 0 + r ≡ r = omega arith in
+    rw same refl
+written-known ones used r (suc d) within some above =
+    let known : (i : ℕ) → is_known (bit_there ones 0 i) ≡ true = λ i.
+    rw (bit_at-zero i) (digit_cases (λ o. is_known (four_bit (digit_bit o) B0) ≡ true) refl refl (bit_at ones i) (bit_at-lt ones i)) in
+    let zeros : (i : ℕ) → r ≤ i → bit_there ones 0 i ≡ B0 = λ i far.
+    rw (bit_at-zero i, bit_at_above ones used i within (omega (arith, far, above (omega arith)))) refl in
+    written-zeros (bit_there ones 0) r (suc d) known zeros (some (omega arith))
 
 -- at least two bits where one falls
 pub some-falls : (at : ℕ → Bit) (n : ℕ) → upper_falls at n ≡ true → 0 < n
