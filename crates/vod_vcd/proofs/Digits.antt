@@ -1,8 +1,8 @@
 -- The digits of a value, by the places of its bits.
-use Rattle.std.proofs.Common.{◌≡◌, ℕ, zero, suc, ◌+◌, ◌-◌, ◌/◌, ◌^◌, ◌==◌, bit_and, ◌<◌, ◌≤◌, List, [], ◌∷◌, ◌++◌, length, map, true, false, refl, sym, ◌∙◌, arith, append_assoc, append-nil}
+use Rattle.std.proofs.Common.{◌≡◌, ℕ, zero, suc, ◌+◌, ◌*◌, ◌-◌, ◌/◌, ◌^◌, ◌==◌, bit_and, ◌<◌, ◌≤◌, List, [], ◌∷◌, ◌++◌, length, map, true, false, refl, sym, ap, ◌∙◌, arith, append_assoc, append-nil}
 use Rattle.std.specs.Int.{bit_at}
-use Rattle.std.proofs.lemmas.Nat.Bits.{bit_at-lt, shr_and_one}
-use Rattle.vod_bits.specs.Bit.{Bit, B0, B1, BX, BZ}
+use Rattle.std.proofs.lemmas.Nat.Bits.{bit_at-zero, bit_at-lt, bit_at_above, shr_and_one}
+use Rattle.vod_bits.specs.Bit.{Bit, B0, B1, BX, BZ, is_known}
 use Rattle.vod_bits.specs.Value.{bits_from, digit_bit}
 use Rattle.vod_bits.specs.Fields.{digit_cases}
 use Rattle.vod_four.specs.Four.{four_bit}
@@ -57,6 +57,34 @@ written-stays at zero stays = refl
 written-stays at (suc zero) stays = refl
 written-stays at (suc (suc n)) stays = rw stays refl
 
+-- zeros above the lower m bits, at least one, of a known value are not written
+pub written-zeros : (at : ℕ → Bit) (m d : ℕ) → ((i : ℕ) → is_known (at i) ≡ true) → ((i : ℕ) → m ≤ i → at i ≡ B0) → 0 < m →
+    written_bits (bits_from at m) ≡ written_bits (bits_from at (d + m))
+written-zeros at m zero known zeros some =
+    let same : 0 + m ≡ m = omega arith in
+    rw same refl
+written-zeros at m (suc d) known zeros some =
+    let more : 2 ≤ suc d + m = omega (arith, some) in
+    let less : suc d + m - 1 ≡ d + m = omega arith in
+    let upper : at (suc d + m - 1) ≡ B0 = zeros (suc d + m - 1) (omega arith) in
+    let dropped : is_dropped (at (suc d + m - 1)) (at (suc d + m - 2)) ≡ true = rw upper (known (suc d + m - 2)) in
+    let falls : upper_falls at (suc d + m) ≡ true =
+    upper_falls-more at (suc d + m) more ∙ falls_before-digits (at (suc d + m - 1)) (at (suc d + m - 2)) ∙ dropped in
+    written-zeros at m d known zeros some ∙ sym (written-falls at (suc d + m) falls ∙ ap (λ k. written_bits (bits_from at k)) less)
+
+-- a known value's zeros above its number are not written
+pub written-known : (ones used r d : ℕ) → ones < 2 ^ used → (0 < d → 0 < r) → (0 < d → used ≤ r) →
+    written_bits (bits_from (bit_there ones 0) r) ≡ written_bits (bits_from (bit_there ones 0) (d + r))
+written-known ones used r zero within some above =
+    let same : 0 + r ≡ r = omega arith in
+    rw same refl
+written-known ones used r (suc d) within some above =
+    let known : (i : ℕ) → is_known (bit_there ones 0 i) ≡ true = λ i.
+    rw (bit_at-zero i) (digit_cases (λ o. is_known (four_bit (digit_bit o) B0) ≡ true) refl refl (bit_at ones i) (bit_at-lt ones i)) in
+    let zeros : (i : ℕ) → r ≤ i → bit_there ones 0 i ≡ B0 = λ i far.
+    rw (bit_at-zero i, bit_at_above ones used i within (omega (arith, far, above (omega arith)))) refl in
+    written-zeros (bit_there ones 0) r (suc d) known zeros (some (omega arith))
+
 -- at least two bits where one falls
 pub some-falls : (at : ℕ → Bit) (n : ℕ) → upper_falls at n ≡ true → 0 < n
 some-falls at zero falls = cc
@@ -71,13 +99,15 @@ digits-next text whole at (suc n) some so_far =
     let one : suc n - 1 ≡ n = omega arith in
     rw one (append_assoc text (digit (at n) ∷ []) (map digit (bits_from at n)) ∙ so_far)
 
--- the digit of a bit that is known
-pub digit-known : (ones unks place : ℕ) → (bit_and (unks / 2 ^ place) 1 ≡ 1 → ⊥) → 48 + bit_and (ones / 2 ^ place) 1 ≡ digit (bit_there ones unks place)
-digit-known ones unks place =
+-- the digit of a bit, from its two binary digits
+pub digit-at : (ones unks place : ℕ) →
+    48 + bit_and (ones / 2 ^ place) 1 + bit_and (unks / 2 ^ place) 1 * (72 + bit_and (ones / 2 ^ place) 1) ≡ digit (bit_there ones unks place)
+digit-at ones unks place =
     rw (shr_and_one ones place, shr_and_one unks place)
-    (digit_cases (λ u. (u ≡ 1 → ⊥) → 48 + bit_at ones place ≡ digit (four_bit (digit_bit (bit_at ones place)) (digit_bit u)))
-    (λ _. digit_cases (λ o. 48 + o ≡ digit (four_bit (digit_bit o) B0)) refl refl (bit_at ones place) (bit_at-lt ones place))
-    (λ h. absurd (h refl)) (bit_at unks place) (bit_at-lt unks place))
+    (digit_cases (λ u. 48 + bit_at ones place + u * (72 + bit_at ones place) ≡ digit (four_bit (digit_bit (bit_at ones place)) (digit_bit u)))
+    (digit_cases (λ o. 48 + o + 0 * (72 + o) ≡ digit (four_bit (digit_bit o) B0)) refl refl (bit_at ones place) (bit_at-lt ones place))
+    (digit_cases (λ o. 48 + o + 1 * (72 + o) ≡ digit (four_bit (digit_bit o) B1)) refl refl (bit_at ones place) (bit_at-lt ones place))
+    (bit_at unks place) (bit_at-lt unks place))
 
 -- no digit is left
 pub digits-done : (text whole : List ℕ) (at : ℕ → Bit) (n : ℕ) → n ≡ 0 → text ++ map digit (bits_from at n) ≡ whole → text ≡ whole

@@ -4,12 +4,12 @@ ghost use Rattle.arrayvec.specs.ArrayVec.{array_vec_len};
 ghost use Rattle.vod_bits.specs.Value.{bits_from};
 ghost use Rattle.vod_bits.specs.declared.TheConstants.{WIDTH};
 ghost use Rattle.vod_four.specs.Four.{four_of};
-ghost use Rattle.vod_vcd.specs.Values.{digit, digits};
+ghost use Rattle.vod_vcd.specs.Values.{digit, digits, written_bits};
 ghost use Rattle.vod_vcd.specs.Text.{code, value_text, value_line};
 ghost use Rattle.vod_vcd.specs.Places.{bit_there, upper_falls, falls_before};
 
 use arrayvec::ArrayVec;
-use vod_bits::Word;
+use vod_bits::{WIDTH, Word};
 use vod_four::Four;
 
 // How many digits the code of a signal has at most: there are at most 16,384 signals.
@@ -41,11 +41,8 @@ fn digit_at(ones: Word, unks: Word, place: u8) -> u8
     ensures { result ≡ digit (bit_there ones unks place) }
 {
     let one = (ones >> place & 1) as u8;
-    if unks >> place & 1 == 1 {
-        b'x' + 2 * one
-    } else {
-        b'0' + one
-    }
+    let unk = (unks >> place & 1) as u8;
+    b'0' + one + unk * (b'x' - b'0' + one)
 }
 
 // Whether a leading digit is dropped before the next one: 0 before 0 or 1, x before x, z before z.
@@ -73,13 +70,26 @@ fn upper_falls(ones: Word, unks: Word, left: u8) -> bool
     )
 }
 
+// How many digits of a value may be written: the zeros that a known one begins with do not count.
+fn used_digits(ones: Word, unks: Word, width: u8) -> u8
+    requires { width ≤ WIDTH }
+    ensures same { written_bits (bits_from (bit_there ones unks) result) ≡ written_bits (four_of width ones unks) }
+    ensures within { result ≤ width }
+{
+    if unks != 0 {
+        return width;
+    }
+    let used = WIDTH - ones.leading_zeros() as u8;
+    used.max(1).min(width)
+}
+
 // How many digits of a value are written.
 fn digit_count(ones: Word, unks: Word, width: u8) -> u8
     requires { width ≤ WIDTH }
     ensures digits { digits (four_of width ones unks) ≡ map digit (bits_from (bit_there ones unks) result) }
     ensures within { result ≤ width }
 {
-    let mut left = width;
+    let mut left = used_digits(ones, unks, width);
     while upper_falls(ones, unks, left) {
         left -= 1;
     }

@@ -1,5 +1,5 @@
-use Rattle.vod_vcd.proofs.Digits.{digit-known}
+use Rattle.vod_vcd.proofs.Digits.{digit-at}
 use Rattle.vod_vcd.proofs.value.digit_at.Goals as goal
 
-pub returns-else-unks-place-eq1 : goal.returns-else-unks-place-eq1
-returns-else-unks-place-eq1 c = digit-known c.args.ones c.args.unks c.args.place c.if-unks-place-eq1.false
+pub returns : goal.returns
+returns c = digit-at c.args.ones c.args.unks c.args.place

@@ -1,15 +1,14 @@
 -- A bit that falls isn't written.
 use Rattle.std.proofs.Common.{◌≡◌, true, false, sym, ap, ◌∙◌, arith, map}
-use Rattle.vod_four.specs.Fields.{four-places}
-use Rattle.vod_vcd.specs.Values.{digit, written_bits}
+use Rattle.vod_vcd.specs.Values.{digit}
 use Rattle.vod_vcd.specs.Places.{bit_there, upper_falls}
 use Rattle.vod_vcd.proofs.Digits.{written-falls, written-stays}
 use Rattle.vod_vcd.proofs.value.digit_count.Goals as goal
 
 pub loop-left-init : goal.loop-left-init
 loop-left-init c = record {
-  within = omega arith;
-  same = ap written_bits (sym (four-places c.args.width c.args.ones c.args.unks));
+  within = c.used_digits-left.ensures.within;
+  same = c.used_digits-left.ensures.same;
 }
 
 pub loop-left-preserved : goal.loop-left-preserved
