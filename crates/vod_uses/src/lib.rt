@@ -1,5 +1,5 @@
-//! Whether the names in expressions and on left sides are declared before, and as what they are used for (IEEE 1364-2005,
-//! clauses 4 and 5, and 12.7).
+//! Whether the names that a source uses are declared before, and as what they are used for (IEEE 1364-2005, clauses 4, 5, 9, 10
+//! and 12.7).
 #![tactic(auto)]
 
 mod declaration;
