@@ -32,17 +32,17 @@ Layer = Statement-F Statement CaseItem
 
 -- all updates that a statement leaves, in order (9.2.2)
 
-abbrev Branch : Type 0
+abbrev pub Branch : Type 0
 Branch = Choice (List Update)
 
-abbrev layer_updates : Value → Statement-F (List Update) Branch → List Update
+abbrev pub layer_updates : Value → Statement-F (List Update) Branch → List Update
 layer_updates value (Statement-F.Assign parts right) = map (piece value right) parts ∷ []
 layer_updates value (Statement-F.If test taken other) = if is_1 (truth_bit (value test).bits) then taken else other
 layer_updates value (Statement-F.Case tested items otherwise) = case_branch value tested items otherwise
 layer_updates value (Statement-F.Begin statements) = flat_map (λ us. us) statements
 layer_updates value Statement-F.Empty = []
 
-abbrev item_updates : CaseItem-F (List Update) Branch → Branch
+abbrev pub item_updates : CaseItem-F (List Update) Branch → Branch
 item_updates item = record { labels = item.labels; body = item.body }
 
 unfoldable pub all_updates : Value → Statement → List Update
@@ -51,7 +51,7 @@ all_updates value s = fold-Statement (List Update) Branch (layer_updates value) 
 abbrev pub stack_updates : Value → List Statement → List Update
 stack_updates value statements = flat_map (all_updates value) statements
 
-abbrev branch_of : Value → CaseItem → Branch
+abbrev pub branch_of : Value → CaseItem → Branch
 branch_of value item = fold-CaseItem (List Update) Branch (layer_updates value) item_updates item
 
 abbrev updates_at : Value → Layer → List Update

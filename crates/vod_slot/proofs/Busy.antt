@@ -70,7 +70,7 @@ touched n p bit (Bits m low width) is = sym (eqb-true n m (and_parts (n == m) (n
 touched n p bit (Word memory place) is = absurd (cc)
 touched n p bit (Ram memory) is = absurd (cc)
 
-reader_linked : (d : Netlist) (ranked : List ℕ) → IsAccepted d ranked → (n : ℕ) (bit : Bit) → IsEdgeNet d n → (j : ℕ) (a : Driver) → slice_get d.drivers j ≡ Some a → feeds_driver (ToBit n 0 bit) a ≡ true → IsLinked d j a
+pub reader_linked : (d : Netlist) (ranked : List ℕ) → IsAccepted d ranked → (n : ℕ) (bit : Bit) → IsEdgeNet d n → (j : ℕ) (a : Driver) → slice_get d.drivers j ≡ Some a → feeds_driver (ToBit n 0 bit) a ≡ true → IsLinked d j a
 reader_linked d ranked h n bit net j a at is =
     let f = found (touches (ToBit n 0 bit)) (reads a.value) is in
     let any : ReadsNet n a.value = (f.0, f.1, slice_get_within (reads a.value) f.0 f.1 f.2, get_or_from_slice_get (reads a.value) f.0 f.1 f.1 f.2, touched n 0 bit f.1 f.3) in
@@ -141,7 +141,7 @@ pend_gone d opening e j st busy = record {
   stages = busy.stages;
 }
 
-class_of : (c : Class) → (c ≡ Data) ⊎ (c ≢ Data)
+pub class_of : (c : Class) → (c ≡ Data) ⊎ (c ≢ Data)
 class_of Clock = inr (λ e. clash e)
   where
     clash : Clock ≡ Data → ⊥
@@ -215,7 +215,7 @@ filled_running : (d : Netlist) (b : Block) (value : Value) (went : Bool) (s : St
 filled_running d b value true s ss later stage = (refl, stage)
 filled_running d b value false s ss later stage = let clash : suc (length ss) ≡ 0 = ap length stage.0 in absurd (omega arith)
 
-reset_net : (d : Netlist) (ranked : List ℕ) → IsAccepted d ranked → (k : ℕ) (b : Block) → slice_get d.blocks k ≡ Some b → ResetNet d b.reset
+pub reset_net : (d : Netlist) (ranked : List ℕ) → IsAccepted d ranked → (k : ℕ) (b : Block) → slice_get d.blocks k ≡ Some b → ResetNet d b.reset
 reset_net d ranked h k b at = nets b.reset (nets_edges d ranked h k b at)
   where
     nets : (r : Option Edge) → All (IsEdgeNet d) (b.clock.signal ∷ reset_nets r) → ResetNet d r

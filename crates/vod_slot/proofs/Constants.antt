@@ -1,9 +1,11 @@
--- A constant expression reads nothing; so what is done in reset reads nothing.
-use Rattle.std.proofs.Common.{◌≡◌, ℕ, Bool, true, List, [], ◌∷◌, ◌++◌, map, flat_map, refl, ap, sym, ◌∙◌, subst, All}
+-- An expression that uses no signal and no memory word reads nothing; so what is done in reset reads nothing.
+use Rattle.std.proofs.Common.{◌≡◌, ℕ, Bool, true, List, [], ◌∷◌, ◌++◌, length, map, flat_map, refl, ap, sym, ◌∙◌, subst, All}
 use Rattle.std.specs.List.{list_all}
 use Rattle.std.proofs.lemmas.Bool.{and_parts}
-use Rattle.std.proofs.lemmas.List.Elements.{All-head, All-tail, All-append}
+use Rattle.std.proofs.lemmas.List.Elements.{All-head, All-tail, All-cons, All-append, All-weaker}
 use Rattle.vod_design.specs.declared.read.Read.{Read}
+use Rattle.vod_design.specs.declared.read.Read.TheVariants as read
+use Rattle.vod_design.specs.declared.sized.NamedMemory.{NamedMemory}
 use Rattle.vod_design.specs.declared.sized.Named.{Named}
 use Rattle.vod_design.specs.declared.sized.Named.TheVariants as named
 use Rattle.vod_design.specs.declared.sized.SizedExpr.{SizedExpr}
@@ -11,6 +13,7 @@ use Rattle.vod_design.specs.declared.sized.SizedKind.{SizedKind}
 use Rattle.vod_design.specs.declared.sized.SizedKind.TheOpen.{SizedKind-F, SizedExpr-F}
 use Rattle.vod_design.specs.declared.sized.SizedKind.TheFolds.{fold-SizedKind, fold-roll-SizedKind, fold-roll-SizedExpr, map-SizedKind, map-SizedExpr, ind-SizedExpr}
 use Rattle.vod_design.specs.declared.sized.SizedKind.TheViews.{roll-SizedKind, roll-SizedExpr}
+use Rattle.vod_design.specs.declared.sized.Variable.TheVariants.{Signal, Local}
 use Rattle.vod_design.specs.declared.statement.CaseItem.{CaseItem}
 use Rattle.vod_design.specs.declared.statement.Part.{Part}
 use Rattle.vod_design.specs.declared.statement.PartTarget.{PartTarget}
@@ -21,10 +24,33 @@ use Rattle.vod_design.specs.declared.statement.Statement.TheFolds.{fold-CaseItem
 use Rattle.vod_design.specs.declared.statement.Statement.TheViews.{roll-Statement}
 use Rattle.vod_design.specs.Accepted.{IsConstantName, IsConstantUse, IsSelected, IsReset}
 use Rattle.vod_design.specs.Reads.{whole, bits, kind_reads, reads}
-use Rattle.vod_design.specs.Uses.{Use, Whole, Bits, BitAt, Seen, kind_uses, expr_seen, seen, uses, all_uses, Assignment, part_index, layer_exprs, item_exprs, exprs, layer_assignments, item_assignments, assignments, is_plain_layer, is_plain}
+use Rattle.vod_design.specs.Uses.{Use, Whole, Bits, BitAt, Word, WordAt, Called, Inputs, IndexSize, Seen, kind_uses, expr_seen, seen, uses, all_uses, Assignment, part_index, layer_exprs, item_exprs, exprs, layer_assignments, item_assignments, assignments, is_plain_layer, is_plain}
 use Rattle.vod_slot.proofs.Lists.{all_none, all_one, all_front, all_back}
 
--- expressions
+-- a use of no signal and no memory word
+abbrev pub IsFreeName : Named → Type 0
+IsFreeName (named.Variable (Signal n)) = ⊥
+IsFreeName (named.Variable (Local n)) = Unit {0}
+IsFreeName (named.Constant bits) = Unit {0}
+
+abbrev pub IsFree : Use → Type 0
+IsFree (Whole name) = IsFreeName name
+IsFree (Bits name low width) = IsFreeName name
+IsFree (BitAt name least index) = IsFreeName name
+IsFree (Word memory place) = ⊥
+IsFree (WordAt memory least index) = ⊥
+IsFree (Called n count) = Unit {0}
+IsFree (Inputs op count) = Unit {0}
+
+-- expressions: what is read is of what is used
+
+-- where a use has a property, what it reads has another
+pub record Follow (U : Use → Type 0) (R : Read → Type 0) : Type 0 where
+  pub names : (n : Named) → U (Whole n) → All R (whole n)
+  pub selections : (n : Named) (low width : ℕ) → U (Bits n low width) → All R (bits n low width)
+  pub indices : (n : Named) (least : ℕ) (index : IndexSize) → U (BitAt n least index) → All R (whole n)
+  pub words : (memory : NamedMemory) (place : ℕ) → U (Word memory place) → R (read.Word memory.number place)
+  pub word_indices : (memory : NamedMemory) (least : ℕ) (index : IndexSize) → U (WordAt memory least index) → R (read.Ram memory.number)
 
 abbrev kind_reads_of : SizedKind → List Read
 kind_reads_of k = fold-SizedKind (List Read) (List Read) kind_reads (λ e. e.kind) k
@@ -32,18 +58,18 @@ kind_reads_of k = fold-SizedKind (List Read) (List Read) kind_reads (λ e. e.kin
 abbrev kind_uses_of : SizedKind → List Use
 kind_uses_of k = fold-SizedKind (List Use) Seen kind_uses expr_seen k
 
-abbrev KindConstant : SizedKind → Type 0
-KindConstant k = All IsConstantUse (kind_uses_of k) → kind_reads_of k ≡ []
+abbrev KindFollows : (Use → Type 0) → (Read → Type 0) → SizedKind → Type 0
+KindFollows U R k = All U (kind_uses_of k) → All R (kind_reads_of k)
 
-abbrev ExprConstant : SizedExpr → Type 0
-ExprConstant e = All IsConstantUse (uses e) → reads e ≡ []
+abbrev ExprFollows : (Use → Type 0) → (Read → Type 0) → SizedExpr → Type 0
+ExprFollows U R e = All U (uses e) → All R (reads e)
 
 -- an expression beside the proof for it
-abbrev With : Type 0
-With = (e : SizedExpr) × ExprConstant e
+abbrev With : (Use → Type 0) → (Read → Type 0) → Type 0
+With U R = (e : SizedExpr) × ExprFollows U R e
 
-abbrev WithKind : Type 0
-WithKind = (k : SizedKind) × KindConstant k
+abbrev WithKind : (Use → Type 0) → (Read → Type 0) → Type 0
+WithKind U R = (k : SizedKind) × KindFollows U R k
 
 abbrev Layer : Type 0
 Layer = SizedKind-F SizedKind SizedExpr
@@ -54,77 +80,109 @@ layer_reads x = kind_reads (map-SizedKind SizedKind SizedExpr (List Read) (List 
 abbrev layer_uses : Layer → List Use
 layer_uses x = kind_uses (map-SizedKind SizedKind SizedExpr (List Use) Seen kind_uses_of seen x)
 
-abbrev bare : SizedKind-F WithKind With → Layer
-bare y = map-SizedKind WithKind With SizedKind SizedExpr (λ k. k.0) (λ e. e.0) y
+abbrev bare : (U : Use → Type 0) (R : Read → Type 0) → SizedKind-F (WithKind U R) (With U R) → Layer
+bare U R y = map-SizedKind (WithKind U R) (With U R) SizedKind SizedExpr (λ k. k.0) (λ e. e.0) y
+
+each_follows : (U : Use → Type 0) (R : Read → Type 0) (es : List (With U R)) → All U (all_uses (map seen (map (λ e. e.0) es))) → All R (flat_map (λ part. part) (map reads (map (λ e. e.0) es)))
+each_follows U R [] h = all_none R
+each_follows U R (e ∷ es) h =
+    All-append R (reads e.0) (flat_map (λ part. part) (map reads (map (λ x. x.0) es)))
+    (e.1 (all_front U (uses e.0) (all_uses (map seen (map (λ x. x.0) es))) h))
+    (each_follows U R es (all_back U (uses e.0) (all_uses (map seen (map (λ x. x.0) es))) h))
+
+two_follow : (U : Use → Type 0) (R : Read → Type 0) (a b : With U R) → All U (uses a.0 ++ uses b.0) → All R (reads a.0 ++ reads b.0)
+two_follow U R a b h = All-append R (reads a.0) (reads b.0) (a.1 (all_front U (uses a.0) (uses b.0) h)) (b.1 (all_back U (uses a.0) (uses b.0) h))
+
+layer_follows : (U : Use → Type 0) (R : Read → Type 0) → Follow U R → (y : SizedKind-F (WithKind U R) (With U R)) → All U (layer_uses (bare U R y)) → All R (layer_reads (bare U R y))
+layer_follows U R f (SizedKind-F.Number b) h = all_none R
+layer_follows U R f (SizedKind-F.Name n) h = f.names n (All-head U (Whole n) [] h)
+layer_follows U R f (SizedKind-F.Select n low count) h = f.selections n low count (All-head U (Bits n low count) [] h)
+layer_follows U R f (SizedKind-F.Index n least e) h =
+    let own = BitAt n least (seen e.0).size in
+    All-append R (whole n) (reads e.0) (f.indices n least (seen e.0).size (All-head U own [] (all_back U (uses e.0) (own ∷ []) h))) (e.1 (all_front U (uses e.0) (own ∷ []) h))
+layer_follows U R f (SizedKind-F.Word memory place) h = all_one R (read.Word memory.number place) (f.words memory place (All-head U (Word memory place) [] h))
+layer_follows U R f (SizedKind-F.WordIndex memory least e) h =
+    let own = WordAt memory least (seen e.0).size in
+    All-cons R (read.Ram memory.number) (reads e.0) (f.word_indices memory least (seen e.0).size (All-head U own [] (all_back U (uses e.0) (own ∷ []) h))) (e.1 (all_front U (uses e.0) (own ∷ []) h))
+layer_follows U R f (SizedKind-F.Unary op a) h = a.1 h
+layer_follows U R f (SizedKind-F.Binary op a b) h = two_follow U R a b h
+layer_follows U R f (SizedKind-F.Comparison op a b) h = two_follow U R a b h
+layer_follows U R f (SizedKind-F.LogicalNot a) h = a.1 h
+layer_follows U R f (SizedKind-F.Logical op a b) h = two_follow U R a b h
+layer_follows U R f (SizedKind-F.Reduction op a) h = a.1 h
+layer_follows U R f (SizedKind-F.Shift op a b) h = two_follow U R a b h
+layer_follows U R f (SizedKind-F.Conditional t a b) h =
+    All-append R (reads t.0 ++ reads a.0) (reads b.0) (two_follow U R t a (all_front U (uses t.0 ++ uses a.0) (uses b.0) h)) (b.1 (all_back U (uses t.0 ++ uses a.0) (uses b.0) h))
+layer_follows U R f (SizedKind-F.Concat parts) h = each_follows U R parts h
+layer_follows U R f (SizedKind-F.Replicate count a) h = a.1 h
+layer_follows U R f (SizedKind-F.Call n arguments) h = each_follows U R arguments (all_front U (all_uses (map seen (map (λ x. x.0) arguments))) (Called n (length (map seen (map (λ x. x.0) arguments))) ∷ []) h)
+layer_follows U R f (SizedKind-F.Gate op inputs) h = each_follows U R inputs (all_front U (all_uses (map seen (map (λ x. x.0) inputs))) (Inputs op (length (map seen (map (λ x. x.0) inputs))) ∷ []) h)
+
+rolled : (U : Use → Type 0) (R : Read → Type 0) → Follow U R → (y : SizedKind-F (WithKind U R) (With U R)) → KindFollows U R (roll-SizedKind (bare U R y))
+unfolding reads seen
+rolled U R f y h =
+    let x = bare U R y in
+    let held = subst (All U) (fold-roll-SizedKind (List Use) Seen kind_uses expr_seen x) h in
+    subst (All R) (sym (fold-roll-SizedKind (List Read) (List Read) kind_reads (λ e. e.kind) x)) (layer_follows U R f y held)
+
+abbrev bare_expr : (U : Use → Type 0) (R : Read → Type 0) → SizedExpr-F (WithKind U R) (With U R) → SizedExpr-F SizedKind SizedExpr
+bare_expr U R y = map-SizedExpr (WithKind U R) (With U R) SizedKind SizedExpr (λ k. k.0) (λ e. e.0) y
+
+sized : (U : Use → Type 0) (R : Read → Type 0) → Follow U R → (y : SizedExpr-F (WithKind U R) (With U R)) → ExprFollows U R (roll-SizedExpr (bare_expr U R y))
+unfolding reads seen
+sized U R f y h =
+    let x = bare_expr U R y in
+    let held = subst (λ (s : Seen). All U s.uses) (fold-roll-SizedExpr (List Use) Seen kind_uses expr_seen x) h in
+    subst (All R) (sym (fold-roll-SizedExpr (List Read) (List Read) kind_reads (λ e. e.kind) x)) (y.kind.1 held)
+
+pub reads_follow : (U : Use → Type 0) (R : Read → Type 0) → Follow U R → (e : SizedExpr) → All U (uses e) → All R (reads e)
+reads_follow U R f =
+    ind-SizedExpr (KindFollows U R) (ExprFollows U R)
+    (λ x y is. let P : Layer → Type 0 = λ z. KindFollows U R (roll-SizedKind z) in subst P is (rolled U R f y))
+    (λ x y is. let P : SizedExpr-F SizedKind SizedExpr → Type 0 = λ z. ExprFollows U R (roll-SizedExpr z) in subst P is (sized U R f y))
+
+-- nothing is read
+
+abbrev Never : Read → Type 0
+Never r = ⊥
+
+free_names : (n : Named) → IsFreeName n → All Never (whole n)
+free_names (named.Variable (Signal m)) h = absurd h
+free_names (named.Variable (Local m)) h = all_none Never
+free_names (named.Constant b) h = all_none Never
+
+free_bits : (n : Named) (low width : ℕ) → IsFreeName n → All Never (bits n low width)
+free_bits (named.Variable (Signal m)) low width h = absurd h
+free_bits (named.Variable (Local m)) low width h = all_none Never
+free_bits (named.Constant b) low width h = all_none Never
+
+never_none : (rs : List Read) → All Never rs → rs ≡ []
+never_none [] h = refl
+never_none (r ∷ rs) h = absurd (All-head Never r rs h)
+
+pub free_reads : (e : SizedExpr) → All IsFree (uses e) → reads e ≡ []
+free_reads e h =
+    never_none (reads e)
+    (reads_follow IsFree Never (record { names = λ n free. free_names n free; selections = λ n low width free. free_bits n low width free; indices = λ n least index free. free_names n free; words = λ memory place free. free; word_indices = λ memory least index free. free }) e h)
 
 nothing : {A : Type 0} (xs ys : List A) → xs ≡ [] → ys ≡ [] → xs ++ ys ≡ []
 nothing xs ys h k = ap (λ zs. zs ++ ys) h ∙ k
 
-name_nothing : (n : Named) → IsConstantName n → whole n ≡ []
-name_nothing (named.Variable x) h = absurd h
-name_nothing (named.Constant b) h = refl
+free_name : (n : Named) → IsConstantName n → IsFreeName n
+free_name (named.Variable x) h = absurd h
+free_name (named.Constant b) h = tt
 
-bits_nothing : (n : Named) (low width : ℕ) → IsConstantName n → bits n low width ≡ []
-bits_nothing (named.Variable x) low width h = absurd h
-bits_nothing (named.Constant b) low width h = refl
-
-each_nothing : (es : List With) → All IsConstantUse (all_uses (map seen (map (λ e. e.0) es))) → flat_map (λ part. part) (map reads (map (λ e. e.0) es)) ≡ []
-each_nothing [] h = refl
-each_nothing (e ∷ es) h =
-    nothing (reads e.0) (flat_map (λ part. part) (map reads (map (λ x. x.0) es)))
-    (e.1 (all_front IsConstantUse (uses e.0) (all_uses (map seen (map (λ x. x.0) es))) h))
-    (each_nothing es (all_back IsConstantUse (uses e.0) (all_uses (map seen (map (λ x. x.0) es))) h))
-
-two_nothing : (a b : With) → All IsConstantUse (uses a.0 ++ uses b.0) → reads a.0 ++ reads b.0 ≡ []
-two_nothing a b h = nothing (reads a.0) (reads b.0) (a.1 (all_front IsConstantUse (uses a.0) (uses b.0) h)) (b.1 (all_back IsConstantUse (uses a.0) (uses b.0) h))
-
-layer_constant : (y : SizedKind-F WithKind With) → All IsConstantUse (layer_uses (bare y)) → layer_reads (bare y) ≡ []
-layer_constant (SizedKind-F.Number b) h = refl
-layer_constant (SizedKind-F.Name n) h = name_nothing n (All-head IsConstantUse (Whole n) [] h)
-layer_constant (SizedKind-F.Select n low count) h = bits_nothing n low count (All-head IsConstantUse (Bits n low count) [] h)
-layer_constant (SizedKind-F.Index n least e) h =
-    let own = all_back IsConstantUse (uses e.0) (BitAt n least (seen e.0).size ∷ []) h in
-    nothing (whole n) (reads e.0) (name_nothing n (All-head IsConstantUse (BitAt n least (seen e.0).size) [] own)) (e.1 (all_front IsConstantUse (uses e.0) (BitAt n least (seen e.0).size ∷ []) h))
-layer_constant (SizedKind-F.Word memory place) h = absurd (All-head IsConstantUse _ [] h)
-layer_constant (SizedKind-F.WordIndex memory least e) h = absurd (All-head IsConstantUse _ [] (all_back IsConstantUse (uses e.0) _ h))
-layer_constant (SizedKind-F.Unary op a) h = a.1 h
-layer_constant (SizedKind-F.Binary op a b) h = two_nothing a b h
-layer_constant (SizedKind-F.Comparison op a b) h = two_nothing a b h
-layer_constant (SizedKind-F.LogicalNot a) h = a.1 h
-layer_constant (SizedKind-F.Logical op a b) h = two_nothing a b h
-layer_constant (SizedKind-F.Reduction op a) h = a.1 h
-layer_constant (SizedKind-F.Shift op a b) h = two_nothing a b h
-layer_constant (SizedKind-F.Conditional t a b) h =
-    nothing (reads t.0 ++ reads a.0) (reads b.0)
-    (two_nothing t a (all_front IsConstantUse (uses t.0 ++ uses a.0) (uses b.0) h))
-    (b.1 (all_back IsConstantUse (uses t.0 ++ uses a.0) (uses b.0) h))
-layer_constant (SizedKind-F.Concat parts) h = each_nothing parts h
-layer_constant (SizedKind-F.Replicate count a) h = a.1 h
-layer_constant (SizedKind-F.Call n arguments) h = absurd (All-head IsConstantUse _ [] (all_back IsConstantUse (all_uses (map seen (map (λ x. x.0) arguments))) _ h))
-layer_constant (SizedKind-F.Gate op inputs) h = each_nothing inputs (all_front IsConstantUse (all_uses (map seen (map (λ x. x.0) inputs))) _ h)
-
-rolled : (y : SizedKind-F WithKind With) → KindConstant (roll-SizedKind (bare y))
-unfolding reads seen
-rolled y h =
-    let x = bare y in
-    let held = subst (All IsConstantUse) (fold-roll-SizedKind (List Use) Seen kind_uses expr_seen x) h in
-    fold-roll-SizedKind (List Read) (List Read) kind_reads (λ e. e.kind) x ∙ layer_constant y held
-
-abbrev bare_expr : SizedExpr-F WithKind With → SizedExpr-F SizedKind SizedExpr
-bare_expr y = map-SizedExpr WithKind With SizedKind SizedExpr (λ k. k.0) (λ e. e.0) y
-
-sized : (y : SizedExpr-F WithKind With) → ExprConstant (roll-SizedExpr (bare_expr y))
-unfolding reads seen
-sized y h =
-    let x = bare_expr y in
-    let held = subst (λ (s : Seen). All IsConstantUse s.uses) (fold-roll-SizedExpr (List Use) Seen kind_uses expr_seen x) h in
-    fold-roll-SizedExpr (List Read) (List Read) kind_reads (λ e. e.kind) x ∙ y.kind.1 held
+free_use : (u : Use) → IsConstantUse u → IsFree u
+free_use (Whole name) h = free_name name h
+free_use (Bits name low width) h = free_name name h
+free_use (BitAt name least index) h = free_name name h
+free_use (Word memory place) h = absurd h
+free_use (WordAt memory least index) h = absurd h
+free_use (Called n count) h = tt
+free_use (Inputs op count) h = tt
 
 pub constant_reads : (e : SizedExpr) → All IsConstantUse (uses e) → reads e ≡ []
-constant_reads =
-    ind-SizedExpr KindConstant ExprConstant
-    (λ x y is. let P : Layer → Type 0 = λ z. KindConstant (roll-SizedKind z) in subst P is (rolled y))
-    (λ x y is. let P : SizedExpr-F SizedKind SizedExpr → Type 0 = λ z. ExprConstant (roll-SizedExpr z) in subst P is (sized y))
+constant_reads e h = free_reads e (All-weaker IsConstantUse IsFree free_use (uses e) h)
 
 -- statements
 

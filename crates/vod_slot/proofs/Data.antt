@@ -44,12 +44,12 @@ abbrev pub IsGiven : ℕ → Input → List Bit → State → Type 0
 IsGiven i x v st = (option_at st.moves i ≡ Some v) ⊎ ((option_at st.moves i ≡ None) × (value_at BX st.store.signals x.signal ≡ v))
 
 -- what each state of such a slot keeps
-record IsData (d : Netlist) (s : State) (moves : List Move) (st : State) : Type 0 where
-  calm : IsCalm st
-  edges : AreEdgesKept d (edge_bit s.store) (edge_bit s.store) st
-  registers : (n : ℕ) → IsRegister d n → value_at BX st.store.signals n ≡ value_at BX s.store.signals n
-  memories : st.store.memories ≡ s.store.memories
-  inputs : (i : ℕ) (x : Input) → slice_get d.inputs i ≡ Some x → IsGiven i x (wanted moves s.store i x) st
+pub record IsData (d : Netlist) (s : State) (moves : List Move) (st : State) : Type 0 where
+  pub calm : IsCalm st
+  pub edges : AreEdgesKept d (edge_bit s.store) (edge_bit s.store) st
+  pub registers : (n : ℕ) → IsRegister d n → value_at BX st.store.signals n ≡ value_at BX s.store.signals n
+  pub memories : st.store.memories ≡ s.store.memories
+  pub inputs : (i : ℕ) (x : Input) → slice_get d.inputs i ≡ Some x → IsGiven i x (wanted moves s.store i x) st
 
 between : (d : Netlist) (ranked : List ℕ) → IsAccepted d ranked → (o : ℕ → Bit) (st : State) → IsConsistent d st → AreEdgesKept d o o st → (n : ℕ) → IsEdgeNet d n → IsBetween o o st.store n
 between d ranked h o st c kept n net = record { value = kept.values n net; there = lowest_there d ranked h st.store c.shaped.sizes n net }
@@ -157,7 +157,7 @@ data_after d ranked h s moves st Activate fit cs c allowed edges data_ =
     let clash : true ≡ false = sym p.1 ∙ nothing_any st.later data_.calm.later in absurd (cc)
 data_after d ranked h s moves st (Perform k) fit cs c allowed edges data_ = absurd (nothing_filled st.now k data_.calm.now allowed)
 
-data_end : HangsOnReads → (d : Netlist) (ranked : List ℕ) → IsAccepted d ranked → (s : State) (moves : List Move) (st t : State) (events : List Event) → DoMovesFit d moves → IsConsistent d s → IsConsistent d st → Steps d st events t → IsData d s moves st → IsData d s moves t
+pub data_end : HangsOnReads → (d : Netlist) (ranked : List ℕ) → IsAccepted d ranked → (s : State) (moves : List Move) (st t : State) (events : List Event) → DoMovesFit d moves → IsConsistent d s → IsConsistent d st → Steps d st events t → IsData d s moves st → IsData d s moves t
 data_end hangs d ranked h s moves st t [] fit cs c steps data_ = subst (IsData d s moves) (sym steps) data_
 data_end hangs d ranked h s moves st t (event ∷ events) fit cs c steps data_ =
     let next = IsConsistent-after hangs d ranked st event h c steps.0 in
@@ -173,7 +173,7 @@ pub given_first : (moves : List Move) (s st : State) (i : ℕ) (x : Input) (o : 
 given_first moves s st i x None is m same = inr (m ∙ is, ap (λ (q : Store). value_at BX q.signals x.signal) same)
 given_first moves s st i x (Some v) is m same = inl (m ∙ is)
 
-data_opened : (d : Netlist) (ranked : List ℕ) → IsAccepted d ranked → (s : State) (moves : List Move) → IsConsistent d s → IsResting s → ChangesData d s moves → IsData d s moves (opened d moves s)
+pub data_opened : (d : Netlist) (ranked : List ℕ) → IsAccepted d ranked → (s : State) (moves : List Move) → IsConsistent d s → IsResting s → ChangesData d s moves → IsData d s moves (opened d moves s)
 data_opened d ranked h s moves c rests changes = record {
   calm = record { init = rests.init; todo = rests.todo; later = rests.later; now = rests.now };
   edges = edges_still d ranked s moves h c rests changes;

@@ -114,7 +114,7 @@ nothing_now zero k = refl
 nothing_now (suc n) zero = refl
 nothing_now (suc n) (suc k) = nothing_now n k
 
-start_settling : (d : Netlist) (ranked : List ℕ) → IsAccepted d ranked → IsSettling d (λ n. BX) (λ n. BZ) (stored (left (start_of d)) (start_of d).store) (start_of d)
+pub start_settling : (d : Netlist) (ranked : List ℕ) → IsAccepted d ranked → IsSettling d (λ n. BX) (λ n. BZ) (stored (left (start_of d)) (start_of d).store) (start_of d)
 start_settling d ranked h = record {
   moves = All-replicate (λ move. move ≡ None) (length d.inputs) no_move refl;
   todo = All-replicate (λ statements. statements ≡ []) (length d.blocks) no_statements refl;

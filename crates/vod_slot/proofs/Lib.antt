@@ -37,3 +37,12 @@ pub mod Busy
 pub mod Activated
 pub mod Slots
 pub mod Runs
+pub mod KnownBits
+pub mod KnownExprs
+pub mod KnownUses
+pub mod KnownFrames
+pub mod KnownCalls
+pub mod KnownWrites
+pub mod KnownReads
+pub mod KnownNets
+pub mod KnownBodies

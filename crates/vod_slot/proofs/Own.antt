@@ -48,7 +48,7 @@ OwnNet (Some x) n = n ≡ x.signal
 abbrev pub ReadsOwn : Netlist → Option Edge → SizedExpr → Type 0
 ReadsOwn d reset e = (n : ℕ) → IsEdgeNet d n → ReadsNet n e → OwnNet reset n
 
-nothing_read : (n : ℕ) → Any (Touches n) [] → ⊥
+pub nothing_read : (n : ℕ) → Any (Touches n) [] → ⊥
 nothing_read n any = absurd (let l = any.2 in omega arith)
 
 one_read : (n m : ℕ) (rs : List Read) → rs ≡ Whole m ∷ [] → Any (Touches n) rs → n ≡ m
@@ -93,7 +93,7 @@ IsReset e store (Some x) = edge_bit store x.signal ≡ e x.signal
 abbrev pub IsStill : Netlist → Store → Store → Type 0
 IsStill d opening store = (n : ℕ) → (value_at BX store.signals n ≡ value_at BX opening.signals n) ⊎ IsEdgeNet d n
 
-whole_value : (d : Netlist) (ranked : List ℕ) → IsAccepted d ranked → (store : Store) (n : ℕ) → sizes store ≡ widths d → IsEdgeNet d n → value_at BX store.signals n ≡ edge_bit store n ∷ []
+pub whole_value : (d : Netlist) (ranked : List ℕ) → IsAccepted d ranked → (store : Store) (n : ℕ) → sizes store ≡ widths d → IsEdgeNet d n → value_at BX store.signals n ≡ edge_bit store n ∷ []
 whole_value d ranked h store n same net = let one : signal_width d n ≡ 1 = h.edge_bits n net in single (value_at BX store.signals n) (value_size store d n same (edge_within d n one) ∙ one)
 
 abbrev pub ResetNet : Netlist → Option Edge → Type 0
@@ -124,7 +124,7 @@ tested_memories : (store : Store) (e : ℕ → Bit) (reset : Option Edge) → (t
 tested_memories store e None = refl
 tested_memories store e (Some x) = refl
 
-reads_any : (n : ℕ) (rs : List Read) (r : Read) → Contains rs r → Touches n r → Any (Touches n) rs
+pub reads_any : (n : ℕ) (rs : List Read) (r : Read) → Contains rs r → Touches n r → Any (Touches n) rs
 reads_any n rs r stands touch = let p = place_in rs r stands in (p.0, r, slice_get_within rs p.0 r p.1, get_or_from_slice_get rs p.0 r r p.1, touch)
 
 read_agrees : (d : Netlist) (ranked : List ℕ) → IsAccepted d ranked → (e : ℕ → Bit) (opening store : Store) (reset : Option Edge) (ex : SizedExpr) (r : Read) → sizes opening ≡ widths d → sizes store ≡ widths d → ResetNet d reset → IsStill d opening store → IsReset e store reset → store.memories ≡ opening.memories → ReadsOwn d reset ex → Contains (reads ex) r →

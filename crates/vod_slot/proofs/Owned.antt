@@ -56,7 +56,7 @@ WriteOf ws (ToWord memory place word) = Contains ws (OfMemory memory)
 
 -- a body assigns what it writes
 
-unflat : {A B : Type 0} (P : B → Type 0) (f : A → List B) (xs : List A) → All P (flat_map f xs) → All (λ x. All P (f x)) xs
+pub unflat : {A B : Type 0} (P : B → Type 0) (f : A → List B) (xs : List A) → All P (flat_map f xs) → All (λ x. All P (f x)) xs
 unflat P f [] h = all_none (λ x. All P (f x))
 unflat P f (x ∷ xs) h = All-cons (λ y. All P (f y)) x xs (all_front P (f x) (flat_map f xs) h) (unflat P f xs (all_back P (f x) (flat_map f xs) h))
 

@@ -36,6 +36,7 @@ use Rattle.vod_slot.proofs.Data.{IsGiven, net_within, input_net, opened_at, give
 use Rattle.vod_slot.proofs.Inputs.{given_after, input_end}
 use Rattle.vod_slot.proofs.First.{input_of}
 use Rattle.vod_slot.proofs.Starts.{SameReset, had_start, same_starts_none}
+use Rattle.vod_slot.proofs.Swaps.{SameRegisters}
 use Rattle.vod_slot.proofs.Settling.{IsSettling, settling_end, settled_registers}
 use Rattle.vod_slot.proofs.Stages.{value_in, IsStage}
 use Rattle.vod_slot.proofs.Busy.{IsBusy, HaveOneEdge, IsOther, busy_after}
@@ -158,39 +159,48 @@ reset_not_clock e = absurd (cc)
 clock_not_reset : Clock ≢ Reset
 clock_not_reset e = absurd (cc)
 
-reset_not_data : Reset ≢ Data
+pub reset_not_data : Reset ≢ Data
 reset_not_data e = absurd (cc)
 
-clock_not_data : Clock ≢ Data
+pub clock_not_data : Clock ≢ Data
 clock_not_data e = absurd (cc)
 
-clock_edges : HangsOnReads → (d : Netlist) (ranked : List ℕ) → IsAccepted d ranked → (s t : State) (moves : List Move) → IsConsistent d s → DoMovesFit d moves → ChangesClass d s moves Clock → IsSlot d s moves t → HaveOneEdge d s.store (edge_bit t.store)
+pub clock_edges : HangsOnReads → (d : Netlist) (ranked : List ℕ) → IsAccepted d ranked → (s t : State) (moves : List Move) → IsConsistent d s → DoMovesFit d moves → ChangesClass d s moves Clock → IsSlot d s moves t → HaveOneEdge d s.store (edge_bit t.store)
 clock_edges hangs d ranked h s t moves c fit changes slot k b at =
     inr (reset_same d b (edge_bit s.store) (edge_bit t.store) b.reset (λ n f. class_kept hangs d ranked h s t moves Clock Reset reset_not_clock reset_not_data c fit changes slot n f)
     (all_at (λ (x : Block). BlockRuns d x x.reset) d.blocks k b h.resets at))
 
-reset_edges : HangsOnReads → (d : Netlist) (ranked : List ℕ) → IsAccepted d ranked → (s t : State) (moves : List Move) → IsConsistent d s → DoMovesFit d moves → ChangesClass d s moves Reset → IsSlot d s moves t → HaveOneEdge d s.store (edge_bit t.store)
+pub reset_edges : HangsOnReads → (d : Netlist) (ranked : List ℕ) → IsAccepted d ranked → (s t : State) (moves : List Move) → IsConsistent d s → DoMovesFit d moves → ChangesClass d s moves Reset → IsSlot d s moves t → HaveOneEdge d s.store (edge_bit t.store)
 reset_edges hangs d ranked h s t moves c fit changes slot k b at =
     inl (class_kept hangs d ranked h s t moves Reset Clock clock_not_reset clock_not_data c fit changes slot b.clock.signal (all_at (λ (x : Block). FollowsClass d Clock x.clock.signal) d.blocks k b h.clocks at))
 
 -- every order ends in one state
 
-edge_slot : HangsOnReads → (d : Netlist) (ranked : List ℕ) (s t u : State) (moves : List Move) (class : Class) → IsAccepted d ranked → IsConsistent d s → DoMovesFit d moves → class ≢ Data → ChangesClass d s moves class → HaveOneEdge d s.store (edge_bit t.store) → IsSlot d s moves t → IsSlot d s moves u → t ≡ u
-edge_slot hangs d ranked s t u moves class h c fit apart changes one to_t to_u =
+-- whatever order of events was taken, registers and words come to what the bodies leave
+pub edge_registers : HangsOnReads → (d : Netlist) (ranked : List ℕ) (s t u : State) (moves : List Move) (class : Class) → IsAccepted d ranked → IsConsistent d s → DoMovesFit d moves → class ≢ Data → ChangesClass d s moves class → HaveOneEdge d s.store (edge_bit t.store) → IsSlot d s moves t → IsSlot d s moves u →
+    SameRegisters d u.store (end_of d s.store (edge_bit t.store))
+edge_registers hangs d ranked s t u moves class h c fit apart changes one to_t to_u =
     let st = opened d moves s in
     let e = edge_bit t.store in
-    let end = end_of d s.store e in
     let open_ = IsConsistent-opened d s moves c in
     let at_t = (slot_end hangs d ranked st t h open_ to_t.completes).0 in
-    let at_u = (slot_end hangs d ranked st u h open_ to_u.completes).0 in
     let kept = edges_opened hangs d ranked s t moves h c to_t.opens fit to_t.completes in
     let busy = busy_opened d ranked h s moves class e apart c to_t.opens changes in
     let same : (i : ℕ) → 0 + i ≡ i = λ i. omega arith in
     let given : AreGiven d t.store st
     = λ i x at. subst (λ v. IsGiven i x v st) (sym (input_end hangs d ranked s t moves i x h c fit to_t at))
     (given_first moves s st i x (assigned moves i) refl (opened_at (assigned moves) 0 d.inputs i (slice_get_within d.inputs i x at) ∙ ap (assigned moves) (same i)) refl) in
-    let a = settled_registers d e e end t to_t.completes.ends (busy_run hangs d ranked h s.store t.store st t to_t.completes.events c.shaped.sizes at_t.shaped.sizes one open_ to_t.completes.steps to_t.completes.ends kept given busy) in
-    let b = settled_registers d e e end u to_u.completes.ends (busy_run hangs d ranked h s.store t.store st u to_u.completes.events c.shaped.sizes at_t.shaped.sizes one open_ to_u.completes.steps to_u.completes.ends kept given busy) in
+    settled_registers d e e (end_of d s.store e) u to_u.completes.ends
+    (busy_run hangs d ranked h s.store t.store st u to_u.completes.events c.shaped.sizes at_t.shaped.sizes one open_ to_u.completes.steps to_u.completes.ends kept given busy)
+
+edge_slot : HangsOnReads → (d : Netlist) (ranked : List ℕ) (s t u : State) (moves : List Move) (class : Class) → IsAccepted d ranked → IsConsistent d s → DoMovesFit d moves → class ≢ Data → ChangesClass d s moves class → HaveOneEdge d s.store (edge_bit t.store) → IsSlot d s moves t → IsSlot d s moves u → t ≡ u
+edge_slot hangs d ranked s t u moves class h c fit apart changes one to_t to_u =
+    let st = opened d moves s in
+    let open_ = IsConsistent-opened d s moves c in
+    let at_t = (slot_end hangs d ranked st t h open_ to_t.completes).0 in
+    let at_u = (slot_end hangs d ranked st u h open_ to_u.completes).0 in
+    let a = edge_registers hangs d ranked s t t moves class h c fit apart changes one to_t to_t in
+    let b = edge_registers hangs d ranked s t u moves class h c fit apart changes one to_t to_u in
     same_at_rest hangs d ranked t u h at_t at_u to_t.completes.ends to_u.completes.ends
     (record {
       registers = λ n register. a.registers n register ∙ sym (b.registers n register);

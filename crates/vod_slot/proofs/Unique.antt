@@ -74,7 +74,7 @@ is_input_test inputs n = member (map (λ (i : Input). i.signal) inputs)
     member (m ∷ ns) = ⊎_elim (λ same. inl (subst (Contains (m ∷ ns)) same (stands_at (m ∷ ns) 0 m refl))) (λ apart. ⊎_elim (λ later. inl (let p = place_in ns n later in stands_at (m ∷ ns) (suc p.0) n p.1)) (λ not_later. inr (λ h. not_later (Contains-tail m ns n apart h))) (member ns)) (cases_eq m n)
 
 -- where a bit that is driven stands
-driver_of : (drivers : List Driver) (b : Place) → Contains (flat_map (λ (a : Driver). a.target) drivers) b → (k : ℕ) × (a : Driver) × (slice_get drivers k ≡ Some a) × Contains a.target b
+pub driver_of : (drivers : List Driver) (b : Place) → Contains (flat_map (λ (a : Driver). a.target) drivers) b → (k : ℕ) × (a : Driver) × (slice_get drivers k ≡ Some a) × Contains a.target b
 driver_of [] b h = absurd (no_member b h)
 driver_of (a ∷ drivers) b h =
     ⊎_elim
@@ -96,7 +96,7 @@ SameBit s t b = bit_at s b.signal b.bit ≡ bit_at t b.signal b.bit
 abbrev SameTarget : Netlist → Store → Store → ℕ → Type 0
 SameTarget d s t j = (a : Driver) → slice_get d.drivers j ≡ Some a → All (SameBit s t) a.target
 
-any_in : {A : Type 0} (test : A → Bool) (xs : List A) (x : A) → Contains xs x → test x ≡ true → list_any test xs ≡ true
+pub any_in : {A : Type 0} (test : A → Bool) (xs : List A) (x : A) → Contains xs x → test x ≡ true → list_any test xs ≡ true
 any_in test xs x h is = let p = place_in xs x h in any_at xs p.0 p.1
   where
     or_later : (a b : Bool) → b ≡ true → (a || b) ≡ true
@@ -108,7 +108,7 @@ any_in test xs x h is = let p = place_in xs x h in any_at xs p.0 p.1
     any_at (y ∷ ys) zero at = or_left (test y) (list_any test ys) (ap test (same_Some y x at) ∙ is)
     any_at (y ∷ ys) (suc k) at = or_later (test y) (list_any test ys) (any_at ys k at)
 
-register_or_net : (signals : List Signal) (n : ℕ) → n < length signals → (option_map (λ (s : Signal). s.register) (slice_get signals n) ≡ Some true) ⊎ (option_map (λ (s : Signal). s.register) (slice_get signals n) ≡ Some false)
+pub register_or_net : (signals : List Signal) (n : ℕ) → n < length signals → (option_map (λ (s : Signal). s.register) (slice_get signals n) ≡ Some true) ⊎ (option_map (λ (s : Signal). s.register) (slice_get signals n) ≡ Some false)
 register_or_net [] n h = absurd (omega arith)
 register_or_net (s ∷ signals) zero h = ⊎_elim (λ e. inl (ap Some e)) (λ e. inr (ap Some e)) (cases_Bool s.register)
 register_or_net (s ∷ signals) (suc n) h = register_or_net signals n (omega arith)

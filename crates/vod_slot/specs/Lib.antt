@@ -9,3 +9,4 @@ pub mod Edges
 pub mod Room
 pub mod Stack
 pub mod Classes
+pub mod Known

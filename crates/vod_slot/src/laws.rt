@@ -20,7 +20,9 @@ ghost use Rattle.vod_slot.specs.Edges.{edge_bit, AreEdgesKept, DoMovesFit};
 ghost use Rattle.vod_slot.specs.Room.{updates_room, statement_most, nets_of, IsRoomKept};
 ghost use Rattle.vod_slot.specs.Stack.{statements_most, IsStackKept};
 ghost use Rattle.vod_slot.specs.Settled.{AgreeFirst, IsConsistent, IsSettled};
+ghost use Rattle.vod_slot.specs.Known.{AreKnown, HasKnownConstants, AreStatesKnown, DataKnown, KnownOrZ};
 ghost use Rattle.vod_slot.specs.Weight.{weight_of};
+ghost use Rattle.vod_design.specs.Nets.{IsEdgeNet};
 
 use vod_design::value_hangs_on_reads;
 
@@ -134,6 +136,16 @@ pub fn inputs_have_given()
 pub fn orders_agree()
     ensures one_end { (d : Netlist) (ranked : List ℕ) (before : List Vector) (v : Vector) (s t u : State) → IsAccepted d ranked → IsConsistent d s → HaveGiven d before s → IsInForm (ports d) v → IsUnmixed (ports d) before v → IsSlot d s v.moves t → IsSlot d s v.moves u → t ≡ u }
     ensures one_run { (d : Netlist) (ranked : List ℕ) (vectors : List Vector) (first again : State) (ends others : List State) → IsAccepted d ranked → IsLawful (ports d) vectors → IsRun d vectors first ends → IsRun d vectors again others → (first ≡ again) × (ends ≡ others) }
+{
+    value_hangs_on_reads();
+}
+
+/// Where nothing is left to do, registers, memory words and data inputs are known and the other inputs are known or not given yet, each
+/// signal is known, or is an edge net that is z. That a design's numbers, parameters and initial values are known, and that its indices
+/// have bits, is asked of it.
+pub fn settled_signals_are_known()
+    ensures { (d : Netlist) (ranked : List ℕ) → IsAccepted d ranked → HasKnownConstants d → (s : State) → IsConsistent d s → IsSettled d s.store → AreStatesKnown d s.store → DataKnown d s.store → KnownOrZ d s.store → (n : ℕ) → n < length d.signals →
+        AreKnown (value_at BX s.store.signals n) ⊎ (IsEdgeNet d n × (value_at BX s.store.signals n ≡ BZ ∷ [])) }
 {
     value_hangs_on_reads();
 }

@@ -8,5 +8,6 @@ pub use crate::event::Event;
 pub use crate::laws::{
     changes_wake_readers, data_slots_end_alike, drivers_are_followed, edge_nets_change_once,
     every_order_ends, first_slots_end_alike, inputs_have_given, inputs_take_moves, orders_agree,
-    registers_decide_nets, slots_end_alike, statements_have_room, updates_have_room,
+    registers_decide_nets, settled_signals_are_known, slots_end_alike, statements_have_room,
+    updates_have_room,
 };
